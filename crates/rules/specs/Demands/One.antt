@@ -1,0 +1,88 @@
+-- Demand 1: the room refusal is given exactly when the block is longer than the buffer; a refusal changes no byte of the output; success changes
+-- the block's bytes only.
+use mathlib.Core.Path.{_≡_, refl}
+use Prim.Native.Nat.{ℕ, _≤_, _<_}
+use native.Mathlib.Omega.{arith}
+use mathlib.Core.Bool.{Bool, true, false}
+use mathlib.Core.List.{List, [], _++_, map}
+use lib.ListN.{length, drop, length-map}
+use lib.Dec.{leb}
+use borrow.Author.Tests.{leb-true, leb-false, lt-leb}
+use Rattle.rules.specs.Doc.Outcomes.{if_then_else_, Outcome, fine, refused, once}
+use Rattle.rules.specs.Doc.Bytes.{byteAt}
+use Rattle.rules.specs.Doc.Block.{bytesAt, block}
+use Rattle.rules.specs.Doc.Answers.{Answer, handed, answerWith, answer}
+use Rattle.rules.specs.Laws.Refusals.{InTable, Numbered, with-number, block-numbered}
+
+-- there is a block, and it is longer than the buffer
+pub record Longer (img out : List ℕ) : Type 0 where
+  pub positions : List ℕ
+  pub is-block : block img ≡ fine positions
+  pub longer : length out < length positions
+
+-- there is a block, it has room, and the output is the block with what stood behind it
+pub record Written (img out after : List ℕ) : Type 0 where
+  pub positions : List ℕ
+  pub is-block : block img ≡ fine positions
+  pub room : length positions ≤ length out
+  pub front : after ≡ bytesAt img positions ++ drop (length positions) out
+
+-- a step before the room doesn't refuse with a number that is not among 1 to 27
+not-given : (n k : ℕ) → Numbered {A = List ℕ} (refused n) → n ≡ k → (InTable k → ⊥) → ⊥
+not-given n k (with-number p) e out = out (rw e at p)
+
+module _ (img out : List ℕ) where
+  -- the answer that an outcome of step 10 leads to
+  unfoldable answerBy : Outcome (List ℕ) → Answer
+  answerBy o = answerWith out (bytesAt img (once (handed (length out)) o)) o
+
+  answer-by : (o : Outcome (List ℕ)) → block img ≡ o → answer img out ≡ answerBy o
+  unfolding answer answerBy
+  answer-by o e = rw e
+
+  longer-by : (o : Outcome (List ℕ)) → block img ≡ o → Numbered o → answerBy o .number ≡ 28 → Longer img out
+  unfolding answerBy answerWith
+  longer-by (refused n) e p h = absurd (not-given n 28 p h (λ t. t))
+  longer-by (fine ps) e p h = record { positions = ps; is-block = e; longer = go (leb (length ps) (length out)) refl h }
+    where
+      go : (t : Bool) → leb (length ps) (length out) ≡ t → _≡_ {A = ℕ} (if t then 0 else 28) 28 → length out < length ps
+      go true f h = absurd (omega arith)
+      go false f h = leb-false (length ps) (length out) f
+
+  pub room-only-then : answer img out .number ≡ 28 → Longer img out
+  unfolding answer answerBy
+  room-only-then h = longer-by (block img) refl (block-numbered img) h
+
+  pub room-then : Longer img out → answer img out .number ≡ 28
+  unfolding answerBy answerWith
+  room-then l = rw (answer-by (fine (l .positions)) (l .is-block), lt-leb (length (l .positions)) (length out) (l .longer))
+
+  -- what is put in front of the output: the block, if there is room
+  unfoldable front : List ℕ → Bool → List ℕ
+  front ps t = map (byteAt img) (if t then ps else [])
+
+  keeps-by : (o : Outcome (List ℕ)) → (answerBy o .number ≡ 0 → ⊥) → answerBy o .output ≡ out
+  unfolding answerBy answerWith once handed bytesAt front
+  keeps-by (refused n) h = refl
+  keeps-by (fine ps) h = go (leb (length ps) (length out)) h
+    where
+      go : (t : Bool) → (_≡_ {A = ℕ} (if t then 0 else 28) 0 → ⊥) → front ps t ++ drop (length (front ps t)) out ≡ out
+      go true h = absurd (h refl)
+      go false h = refl
+
+  pub refusal-keeps : (answer img out .number ≡ 0 → ⊥) → answer img out .output ≡ out
+  unfolding answer answerBy
+  refusal-keeps h = keeps-by (block img) h
+
+  written-by : (o : Outcome (List ℕ)) → block img ≡ o → Numbered o → answerBy o .number ≡ 0 → Written img out (answerBy o .output)
+  unfolding answerBy answerWith once handed bytesAt front
+  written-by (refused n) e p h = absurd (not-given n 0 p h (λ t. t))
+  written-by (fine ps) e p h = go (leb (length ps) (length out)) refl h
+    where
+      go : (t : Bool) → leb (length ps) (length out) ≡ t → _≡_ {A = ℕ} (if t then 0 else 28) 0 → Written img out (front ps t ++ drop (length (front ps t)) out)
+      go true f h = record { positions = ps; is-block = e; room = leb-true (length ps) (length out) f; front = rw (length-map ps (byteAt img)) }
+      go false f h = absurd (omega arith)
+
+  pub success-writes : answer img out .number ≡ 0 → Written img out (answer img out .output)
+  unfolding answer answerBy
+  success-writes h = written-by (block img) refl (block-numbered img) h

@@ -1,0 +1,22 @@
+-- "Some", "those that", "the last", "of each": the words of document 01 that speak of a list.
+use mathlib.Core.Bool.{Bool, false, _||_}
+use mathlib.Core.Option.{Option, none, some}
+use mathlib.Core.List.{List, [], _∷_, _++_}
+use Rattle.rules.specs.Doc.Outcomes.{if_then_else_}
+
+unfoldable pub any : {A : Type 0} → (A → Bool) → List A → Bool
+any p [] = false
+any p (x ∷ xs) = p x || any p xs
+
+unfoldable pub only : {A : Type 0} → (A → Bool) → List A → List A
+only p [] = []
+only p (x ∷ xs) = if p x then x ∷ only p xs else only p xs
+
+unfoldable pub lastOf : {A : Type 0} → List A → Option A
+lastOf [] = none
+lastOf (x ∷ []) = some x
+lastOf (x ∷ y ∷ xs) = lastOf (y ∷ xs)
+
+unfoldable pub each : {A B : Type 0} → (A → List B) → List A → List B
+each f [] = []
+each f (x ∷ xs) = f x ++ each f xs

@@ -1,0 +1,125 @@
+-- What a walk over boxes comes to, box by box: one equation at any level for a loop of the code to follow.
+use mathlib.Core.Path.{_≡_, refl, sym, ap, _∙_}
+use Prim.Native.Nat.{ℕ, _≤_, _<_}
+use mathlib.Core.Bool.{Bool, true, false}
+use mathlib.Core.Option.{Option, none, some}
+use mathlib.Core.List.{List, [], _∷_}
+use lib.ListN.{length}
+use borrow.Author.Tests.{le-leb, lt-leb}
+use Rattle.rules.specs.Doc.Outcomes.{if_then_else_, Outcome, fine, refused, _>>=_, given}
+use Rattle.rules.specs.Doc.Walks.{onward, halt, End, ended, cutAt, refusedAt, stoppedAt, Walk, bare, walked, judged, after}
+use Rattle.rules.specs.Doc.Headers.{ftyp, Header, headerAt, bodySize, Box, boxWith, is, whole, skips, announced, boxAt, fileBoxAt}
+use Rattle.rules.specs.Doc.Levels.{Level, tested, said, decided, boxStep, levelStep, boxes}
+use Rattle.rules.specs.Doc.Ftyp.{topFits, stopped}
+use Rattle.rules.specs.Laws.Rows.{bind-cong}
+use Rattle.rules.specs.Laws.Unroll.{boxes-unroll}
+
+-- the state after some boxes
+unfoldable pub folded : {S : Type 0} → (S → Box → S) → S → List Box → S
+folded f st [] = st
+folded f st (b ∷ bs) = folded f (f st b) bs
+
+-- what the walk's end makes of that state: `done` at the end of the bytes, `halted` at the box that ended the walk
+unfoldable pub ending : {S R : Type 0} → (S → Outcome R) → (S → Box → Outcome R) → S → End Box → Outcome R
+ending done halted st ended = done st
+ending done halted st (cutAt n at) = refused n
+ending done halted st (refusedAt n b) = refused n
+ending done halted st (stoppedAt b) = halted st b
+
+unfoldable pub closed : {S R : Type 0} → (S → Box → S) → (S → Outcome R) → (S → Box → Outcome R) → S → Walk Box → Outcome R
+closed f done halted st w = ending done halted (folded f st (w .list)) (w .end)
+
+module _ {S R : Type 0} (f : S → Box → S) (done : S → Outcome R) (halted : S → Box → Outcome R) (l : Level) (s : List ℕ) where
+  -- after a box: the end of the walk, or the boxes after it
+  unfoldable pub onwards : S → (ℕ → Walk Box) → Box → Outcome R
+  onwards st go b = if l .ends (b .kind) then halted (f st b) b else closed f done halted (f st b) (go (b .body .to))
+
+  -- a box of which all that is said is known
+  said-next : (st : S) (go : ℕ → Walk Box) (b : Box) (fit test : Outcome (Unit {0})) (t : Bool)
+      → closed f done halted st (walked b (judged b (fit >>= λ u. test >>= λ v. fine (if t then halt else onward (b .body .to))) go))
+      ≡ (fit >>= λ u. test >>= λ v. if t then halted (f st b) b else closed f done halted (f st b) (go (b .body .to)))
+  unfolding closed ending folded walked judged bare
+  said-next st go b (refused n) test t = refl
+  said-next st go b (fine u) (refused n) t = refl
+  said-next st go b (fine u) (fine v) true = refl
+  said-next st go b (fine u) (fine v) false = refl
+
+  fit-next : (b : Box) (fit : Outcome (Unit {0})) (k : Box → Outcome R) → (fit >>= λ u. k b) ≡ ((fit >>= λ u. fine b) >>= k)
+  fit-next b (refused n) k = refl
+  fit-next b (fine u) k = refl
+
+  -- what follows a box of the level, from the decision over its size on
+  size-next : (st : S) (go : ℕ → Walk Box) (h : Header) (o : Outcome ℕ)
+      → closed f done halted st (walked (boxWith h (decided o)) (judged (boxWith h (decided o)) (o >>= λ size. said l s (boxWith h size)) go))
+      ≡ ((o >>= λ size. fine (boxWith h size)) >>= (λ b. l .fits (length s) b >>= λ u. fine b) >>= λ b. tested l s b >>= λ u. onwards st go b)
+  unfolding closed ending folded walked judged bare decided said onwards
+  size-next st go h (refused n) = refl
+  size-next st go h (fine size) =
+      let b : Box = boxWith h size in
+      said-next st go b (l .fits (length s) b) (tested l s b) (l .ends (b .kind))
+      ∙ fit-next b (l .fits (length s) b) (λ b. tested l s b >>= λ u. onwards st go b)
+
+  step-next : (st : S) (at : ℕ) (go : ℕ → Walk Box) (o : Option Header)
+      → closed f done halted st (after at (boxStep l s o) go)
+      ≡ ((given o (l .cutNumber) >>= λ h. bodySize (length s) h >>= λ size. fine (boxWith h size)) >>= (λ b. l .fits (length s) b >>= λ u. fine b)
+      >>= λ b. tested l s b >>= λ u. onwards st go b)
+  unfolding after boxStep closed ending bare
+  step-next st at go none = refl
+  step-next st at go (some h) = size-next st go h (bodySize (length s) h)
+
+  -- The boxes from a position: a box of the level, the test of what is opened, and then the boxes after it.
+  pub level-next : (st : S) (at : ℕ) → at < length s
+      → closed f done halted st (boxes l s at) ≡ (boxAt (l .cutNumber) (l .fits (length s)) s at >>= λ b. tested l s b >>= λ u. onwards st (boxes l s) b)
+  unfolding levelStep boxAt announced
+  level-next st at k = ap (closed f done halted st) (boxes-unroll l s at) ∙ rw (lt-leb (length s) at k) (step-next st at (boxes l s) (headerAt s at))
+
+  pub level-done : (st : S) (at : ℕ) → length s ≤ at → closed f done halted st (boxes l s at) ≡ done st
+  unfolding levelStep after bare closed ending folded
+  level-done st at k = ap (closed f done halted st) (boxes-unroll l s at) ∙ rw (le-leb (length s) at k)
+
+-- ---- The box that ends a walk
+
+stopped-closed : (e : End Box) (st : Unit {0}) → stopped e ≡ ending (λ u. refused 1) (λ u b. fine b) st e
+unfolding stopped ending
+stopped-closed ended st = refl
+stopped-closed (cutAt n at) st = refl
+stopped-closed (refusedAt n b) st = refl
+stopped-closed (stoppedAt b) st = refl
+
+module _ (l : Level) (s : List ℕ) where
+  -- the box that ends the walk from a position
+  unfoldable pub stopFrom : ℕ → Outcome Box
+  stopFrom at = stopped (boxes l s at .end)
+
+  stop-closed : (at : ℕ) → stopFrom at ≡ closed (λ u b. tt) (λ u. refused 1) (λ u b. fine b) (tt {0}) (boxes l s at)
+  unfolding stopFrom closed
+  stop-closed at = stopped-closed (boxes l s at .end) (folded (λ u b. tt) tt (boxes l s at .list))
+
+  pub stop-next : (at : ℕ) → at < length s
+      → stopFrom at ≡ (boxAt (l .cutNumber) (l .fits (length s)) s at >>= λ b. tested l s b >>= λ u. if l .ends (b .kind) then fine b else stopFrom (b .body .to))
+  unfolding onwards
+  stop-next at k =
+      stop-closed at ∙ level-next (λ u b. tt) (λ u. refused 1) (λ u b. fine b) l s tt at k
+      ∙ bind-cong (boxAt (l .cutNumber) (l .fits (length s)) s at)
+      (λ b. bind-cong (tested l s b) (λ u. ap (λ (o : Outcome Box). if l .ends (b .kind) then fine b else o) (sym (stop-closed (b .body .to)))))
+
+  pub stop-done : (at : ℕ) → length s ≤ at → stopFrom at ≡ refused 1
+  stop-done at k = stop-closed at ∙ level-done (λ u b. tt) (λ u. refused 1) (λ u b. fine b) l s tt at k
+
+-- ---- The two levels
+
+-- the top level asks of a box what `fileBoxAt` asks, and then that an `ftyp` fits; inside a box, `childAt` is all that is asked
+pub top-box : (s : List ℕ) (at : ℕ)
+    → boxAt 2 (topFits (length s)) s at ≡ (fileBoxAt s at >>= λ b. (if is ftyp b then whole 2 (length s) b else fine tt) >>= λ u. fine b)
+unfolding fileBoxAt boxAt topFits
+top-box s at = go (announced 2 s at)
+  where
+    go : (o : Outcome Box) → (o >>= λ b. (skips b >>= λ u. if is ftyp b then whole 2 (length s) b else fine tt) >>= λ u. fine b)
+        ≡ ((o >>= λ b. skips b >>= λ u. fine b) >>= λ b. (if is ftyp b then whole 2 (length s) b else fine tt) >>= λ u. fine b)
+    go (refused n) = refl
+    go (fine b) = step (skips b)
+      where
+        step : (o : Outcome (Unit {0})) → ((o >>= λ u. if is ftyp b then whole 2 (length s) b else fine tt) >>= λ u. fine b)
+            ≡ ((o >>= λ u. fine b) >>= λ b. (if is ftyp b then whole 2 (length s) b else fine tt) >>= λ u. fine b)
+        step (fine u) = refl
+        step (refused n) = refl

@@ -1,0 +1,303 @@
+-- Every step before the room refuses with a number from 1 to 27.
+use Prim.Native.Nat.{ℕ, zero, suc, _+_, _-_, _/_, _%_, _^_}
+use mathlib.Core.Bool.{Bool, true, false, _&&_, _||_}
+use mathlib.Core.Option.{Option, none, some}
+use mathlib.Core.List.{List, [], _∷_}
+use lib.ListN.{length}
+use lib.Dec.{T, leb, ltb, eqb}
+use Rattle.rules.specs.Doc.Outcomes.{if_then_else_, Outcome, fine, refused, _>>=_, require, given}
+use Rattle.rules.specs.Doc.Lists.{any, only, lastOf}
+use Rattle.rules.specs.Doc.Bytes.{Span, sizeOf, bytesIn, field, sized, version}
+use Rattle.rules.specs.Doc.Walks.{Then, onward, halt, Step, over, cut, met, End, ended, cutAt, refusedAt, stoppedAt, Walk, bare, walked, judged, after, run, outcome}
+use Rattle.rules.specs.Doc.Headers.{ftyp, meta, iinf, infe, iloc, Header, headerAt, bodySize, Box, boxWith, isKind, is, addressable, whole, skips}
+use Rattle.rules.specs.Doc.Levels.{Level, tested, said, boxStep, levelStep, boxes, countedBoxes, inside}
+use Rattle.rules.specs.Doc.Ftyp.{known, brandsFrom, brandTest, topFits, topLevel, top, stopped}
+use Rattle.rules.specs.Doc.Meta.{openedIn, opened, metaTest}
+use Rattle.rules.specs.Doc.Children.{metaLevel, children, lastBody, wantedItem, keptIn, kept}
+use Rattle.rules.specs.Doc.Iinf.{itemIdSize, item, itemTest, countSize, infoCount, infoLevel, infos, infoTest}
+use Rattle.rules.specs.Doc.Iloc.{Sizes, Table, idSize, tableOf, inFile, Entry, entryAt, Extent, extentAt, extentMet, extents, isWanted, entryEnd, extentsTest, entryNext, entryMet, entries, chosenIn, chosen}
+use Rattle.rules.specs.Doc.Join.{planOf, plan, sourceOf, reach, inImage, inIdat, lies, counted, placed, join, joinedIn, joinedBy, joinedFrom, joined}
+use Rattle.rules.specs.Doc.Block.{blockAfter, blockIn, block}
+
+abbrev pub InTable : ℕ → Type 0
+InTable n = T (leb 1 n && leb n 27)
+
+pub data Numbered {A : Type 0} : Outcome A → Type 0 where
+  went : {x : A} → Numbered (fine x)
+  with-number : {n : ℕ} → InTable n → Numbered (refused n)
+
+-- ---- Steps in a row
+
+row : {A B : Type 0} (o : Outcome A) (f : A → Outcome B) → Numbered o → ((x : A) → Numbered (f x)) → Numbered (o >>= f)
+row (fine x) f p q = q x
+row (refused n) f (with-number p) q = with-number p
+
+require-numbered : (t : Bool) (n : ℕ) → InTable n → Numbered (require t n)
+require-numbered true n p = went
+require-numbered false n p = with-number p
+
+given-numbered : {A : Type 0} (o : Option A) (n : ℕ) → InTable n → Numbered (given o n)
+given-numbered none n p = with-number p
+given-numbered (some x) n p = went
+
+either : {A : Type 0} (t : Bool) (x y : Outcome A) → Numbered x → Numbered y → Numbered (if t then x else y)
+either true x y p q = p
+either false x y p q = q
+
+-- ---- Fields and boxes
+
+field-numbered : (s : List ℕ) (at n : ℕ) → Numbered (field s at n)
+unfolding field
+field-numbered s at n = either (leb (at + n) (length s)) _ _ went (with-number tt)
+
+sized-numbered : (s : List ℕ) (at w n : ℕ) → InTable n → Numbered (sized s at w n)
+unfolding sized
+sized-numbered s at w n p = row _ _ (require-numbered (eqb w 0 || eqb w 4 || eqb w 8) n p) (λ u. field-numbered s at w)
+
+version-numbered : (s : List ℕ) (at : ℕ) → Numbered (version s at)
+unfolding version
+version-numbered s at = row _ _ (field-numbered s at 4) (λ v. went)
+
+size-numbered : (n : ℕ) (h : Header) → Numbered (bodySize n h)
+unfolding bodySize
+size-numbered n h =
+    either (eqb (h .size) 0) _ _ went
+    (either (eqb (h .size) 1) _ _ (either (ltb (h .large) 16) _ _ (with-number tt) went) (either (ltb (h .size) 8) _ _ (with-number tt) went))
+
+whole-numbered : (k n : ℕ) (b : Box) → InTable k → Numbered (whole k n b)
+unfolding whole
+whole-numbered k n b p = row _ _ (require-numbered (addressable (sizeOf (b .body))) 27 tt) (λ u. require-numbered (leb (b .body .to) n) k p)
+
+-- ---- Walks
+
+data NumberedStep {A : Type 0} : Step A → Type 0 where
+  at-end : NumberedStep over
+  at-cut : {n : ℕ} → InTable n → NumberedStep (cut n)
+  at-thing : {x : A} {v : Outcome Then} → Numbered v → NumberedStep (met x v)
+
+data NumberedEnd {A : Type 0} : End A → Type 0 where
+  in-end : NumberedEnd ended
+  in-cut : {n at : ℕ} → InTable n → NumberedEnd (cutAt n at)
+  in-thing : {n : ℕ} {x : A} → InTable n → NumberedEnd (refusedAt n x)
+  in-stop : {x : A} → NumberedEnd (stoppedAt x)
+
+judged-numbered : {A : Type 0} (x : A) (v : Outcome Then) (go : ℕ → Walk A) → Numbered v → ((q : ℕ) → NumberedEnd (go q .end)) → NumberedEnd (judged x v go .end)
+unfolding judged bare
+judged-numbered x (fine (onward next)) go p q = q next
+judged-numbered x (fine halt) go p q = in-stop
+judged-numbered x (refused n) go (with-number p) q = in-thing p
+
+after-numbered : {A : Type 0} (at : ℕ) (st : Step A) (go : ℕ → Walk A) → NumberedStep st → ((q : ℕ) → NumberedEnd (go q .end)) → NumberedEnd (after at st go .end)
+unfolding after walked bare
+after-numbered at over go p q = in-end
+after-numbered at (cut n) go (at-cut p) q = in-cut p
+after-numbered at (met x v) go (at-thing p) q = judged-numbered x v go p q
+
+run-numbered : {A : Type 0} (step : ℕ → Step A) → ((at : ℕ) → NumberedStep (step at)) → (n at : ℕ) → NumberedEnd (run step n at .end)
+unfolding run bare
+run-numbered step p zero at = in-end
+run-numbered step p (suc n) at = after-numbered at (step at) (run step n) (p at) (run-numbered step p n)
+
+outcome-numbered : {A : Type 0} (e : End A) → NumberedEnd e → Numbered (outcome e)
+unfolding outcome
+outcome-numbered ended p = went
+outcome-numbered (cutAt n at) (in-cut p) = with-number p
+outcome-numbered (refusedAt n x) (in-thing p) = with-number p
+outcome-numbered (stoppedAt x) p = went
+
+-- ---- Levels
+
+record NumberedLevel (l : Level) : Type 0 where
+  cutNumber : InTable (l .cutNumber)
+  fits : (n : ℕ) (b : Box) → Numbered (l .fits n b)
+  test : (body : List ℕ) → Numbered (l .test body)
+
+module _ (l : Level) (p : NumberedLevel l) (s : List ℕ) where
+  said-numbered : (b : Box) → Numbered (said l s b)
+  unfolding said tested
+  said-numbered b = row _ _ (p .fits (length s) b) (λ u. row _ _ (either (l .opens (b .kind)) _ _ (p .test (bytesIn s (b .body))) went) (λ v. went))
+
+  box-numbered : (o : Option Header) → NumberedStep (boxStep l s o)
+  unfolding boxStep
+  box-numbered none = at-cut (p .cutNumber)
+  box-numbered (some h) = at-thing (row _ _ (size-numbered (length s) h) (λ size. said-numbered (boxWith h size)))
+
+  level-numbered : (at : ℕ) → NumberedStep (levelStep l s at)
+  unfolding levelStep
+  level-numbered at = go (leb (length s) at)
+    where
+      go : (t : Bool) → NumberedStep (if t then over else boxStep l s (headerAt s at))
+      go true = at-end
+      go false = box-numbered (headerAt s at)
+
+  boxes-numbered : (at : ℕ) → NumberedEnd (boxes l s at .end)
+  unfolding boxes
+  boxes-numbered at = run-numbered (levelStep l s) level-numbered (length s) at
+
+  counted-numbered : (n at : ℕ) → NumberedEnd (countedBoxes l s n at .end)
+  unfolding countedBoxes
+  counted-numbered n at = run-numbered (λ at. boxStep l s (headerAt s at)) (λ at. box-numbered (headerAt s at)) n at
+
+inside-numbered : (o : ℕ → Bool) (t : List ℕ → Outcome (Unit {0})) → ((body : List ℕ) → Numbered (t body)) → NumberedLevel (inside o t)
+unfolding inside
+inside-numbered o t p = record { cutNumber = tt; fits = λ n b. whole-numbered 3 n b tt; test = p }
+
+-- ---- Steps 1 and 2
+
+brand-numbered : (body : List ℕ) → Numbered (brandTest body)
+unfolding brandTest
+brand-numbered body = row _ _ (require-numbered (leb 8 (length body)) 3 tt) (λ u. require-numbered (any known (brandsFrom body 8 ((length body - 8) / 4))) 7 tt)
+
+skips-numbered : (b : Box) → Numbered (skips b)
+unfolding skips
+skips-numbered b = require-numbered (is ftyp b || is meta b || ltb (sizeOf (b .body)) (2 ^ 63)) 5 tt
+
+top-numbered : NumberedLevel topLevel
+unfolding topLevel topFits
+top-numbered = record {
+  cutNumber = tt;
+  fits = λ n b. row _ _ (skips-numbered b) (λ u. either (is ftyp b) _ _ (whole-numbered 2 n b tt) went);
+  test = brand-numbered;
+}
+
+stopped-numbered : (e : End Box) → NumberedEnd e → Numbered (stopped e)
+unfolding stopped
+stopped-numbered ended p = with-number tt
+stopped-numbered (cutAt n at) (in-cut p) = with-number p
+stopped-numbered (refusedAt n x) (in-thing p) = with-number p
+stopped-numbered (stoppedAt x) p = went
+
+opened-numbered : (img : List ℕ) → Numbered (opened img)
+unfolding opened openedIn top
+opened-numbered img =
+    row _ _ (stopped-numbered (top img .end) (boxes-numbered topLevel top-numbered img 0))
+    (λ m. row _ _ (require-numbered (any (is ftyp) (top img .list)) 6 tt) (λ u. row _ _ (whole-numbered 2 (length img) m tt) (λ v. went)))
+
+-- ---- Steps 3 to 6
+
+item-numbered : (body : List ℕ) → Numbered (item body)
+unfolding item itemIdSize
+item-numbered body =
+    row _ _ (version-numbered body 0) (λ v. row _ _ (either (eqb v 2) _ _ went (either (eqb v 3) _ _ went (with-number tt)))
+    (λ w. row _ _ (field-numbered body 4 w) (λ i. row _ _ (field-numbered body (4 + w) 2) (λ u. row _ _ (field-numbered body (6 + w) 4) (λ k. went)))))
+
+info-level-numbered : NumberedLevel infoLevel
+unfolding infoLevel itemTest
+info-level-numbered = inside-numbered (isKind infe) itemTest (λ body. row _ _ (item-numbered body) (λ i. went))
+
+info-numbered : (body : List ℕ) → Numbered (infoTest body)
+unfolding infoTest infoCount infos
+info-numbered body =
+    row _ _ (row _ _ (version-numbered body 0) (λ v. row _ _ (field-numbered body 4 (countSize v)) (λ n. went)))
+    (λ c. outcome-numbered (infos body c .end) (counted-numbered infoLevel info-level-numbered body (c .count) (c .from)))
+
+meta-level-numbered : NumberedLevel metaLevel
+unfolding metaLevel
+meta-level-numbered = inside-numbered (isKind iinf) infoTest info-numbered
+
+meta-numbered : (body : List ℕ) → Numbered (metaTest body)
+unfolding metaTest
+meta-numbered body = row _ _ (version-numbered body 0) (λ v. require-numbered (eqb v 0) 8 tt)
+
+kept-numbered : (body : List ℕ) → Numbered (kept body)
+unfolding kept keptIn children
+kept-numbered body =
+    row _ _ (meta-numbered body)
+    (λ u. row _ _ (outcome-numbered (children body .end) (boxes-numbered metaLevel meta-level-numbered body 4))
+    (λ v. row _ _ (given-numbered (wantedItem body (children body .list)) 1 tt) (λ i. row _ _ (given-numbered (lastBody iloc (children body .list)) 16 tt) (λ t. went))))
+
+-- ---- Steps 7 and 8
+
+table-numbered : (body : List ℕ) → Numbered (tableOf body)
+unfolding tableOf
+table-numbered body =
+    row _ _ (version-numbered body 0) (λ v. row _ _ (field-numbered body 4 2) (λ h. row _ _ (require-numbered (leb v 2) 10 tt) (λ u. row _ _ (field-numbered body 6 (idSize v)) (λ n. went))))
+
+entry-numbered : (t : Table) (body : List ℕ) (at : ℕ) → Numbered (entryAt t body at)
+unfolding entryAt
+entry-numbered t body at =
+    row _ _ (field-numbered body _ _) (λ i. row _ _ (field-numbered body _ _) (λ m. row _ _ (field-numbered body _ 2) (λ r. row _ _ (require-numbered (inFile (m % 16) r) 15 tt)
+    (λ u. row _ _ (sized-numbered body _ (t .baseSize) 11 tt) (λ b. row _ _ (field-numbered body _ 2) (λ n. went))))))
+
+extent-numbered : (z : Sizes) (body : List ℕ) (at : ℕ) → Numbered (extentAt z body at)
+unfolding extentAt
+extent-numbered z body at =
+    row _ _ (sized-numbered body at (z .index) 12 tt) (λ i. row _ _ (sized-numbered body _ (z .offset) 13 tt) (λ o. row _ _ (sized-numbered body _ (z .length) 14 tt) (λ l. went)))
+
+extents-numbered : (z : Sizes) (body : List ℕ) (e : Entry) → NumberedEnd (extents z body e .end)
+unfolding extents extentMet
+extents-numbered z body e = run-numbered _ (λ at. go _ (extentAt z body at) (extent-numbered z body at)) (e .count) (e .from)
+  where
+    go : (next : ℕ) (o : Outcome Extent) → Numbered o → NumberedStep (extentMet next o)
+    go next (fine x) p = at-thing went
+    go next (refused n) (with-number p) = at-cut p
+
+next-numbered : (t : Table) (body : List ℕ) (wanted : ℕ) (e : Entry) → Numbered (entryNext t body wanted e)
+unfolding entryNext extentsTest
+next-numbered t body wanted e =
+    row _ _ (either (isWanted wanted e) _ _ (outcome-numbered _ (extents-numbered (t .sizes) body e)) (require-numbered (leb (entryEnd t e) (length body)) 3 tt)) (λ u. went)
+
+entries-numbered : (t : Table) (body : List ℕ) (wanted : ℕ) → NumberedEnd (entries t body wanted .end)
+unfolding entries entryMet
+entries-numbered t body wanted = run-numbered _ (λ at. go (entryAt t body at) (entry-numbered t body at)) (t .count) (t .from)
+  where
+    go : (o : Outcome Entry) → Numbered o → NumberedStep (entryMet t body wanted o)
+    go (fine e) p = at-thing (row _ _ (next-numbered t body wanted e) (λ next. went))
+    go (refused n) (with-number p) = at-cut p
+
+chosen-numbered : (body : List ℕ) (wanted : ℕ) → Numbered (chosen body wanted)
+unfolding chosen chosenIn
+chosen-numbered body wanted =
+    row _ _ (table-numbered body)
+    (λ t. row _ _ (outcome-numbered _ (entries-numbered t body wanted)) (λ u. row _ _ (given-numbered (lastOf (only (isWanted wanted) (entries t body wanted .list))) 17 tt) (λ e. went)))
+
+-- ---- Steps 9 and 10
+
+source-numbered : (n : ℕ) (store : Option Span) (method : ℕ) → Numbered (sourceOf n store method)
+unfolding sourceOf
+source-numbered n store method =
+    either (eqb method 0) _ _ went (either (eqb method 1) _ _ (given-numbered store 21 tt) (either (eqb method 2) _ _ (with-number tt) (with-number tt)))
+
+lies-numbered : (method n base : ℕ) (x : Extent) → Numbered (lies method n base x)
+unfolding lies inImage inIdat
+lies-numbered method n base x =
+    row _ _ (require-numbered (ltb from (2 ^ 64)) 18 tt) (λ u. either (eqb method 0) _ _
+    (row _ _ (require-numbered (addressable (x .length)) 27 tt) (λ v. row _ _ (require-numbered (leb to n) 2 tt) (λ w. went)))
+    (row _ _ (require-numbered (ltb (from + x .length) (2 ^ 64)) 19 tt)
+    (λ v. row _ _ (require-numbered (addressable (from + x .length)) 27 tt) (λ w. row _ _ (require-numbered (leb from n && leb to n) 20 tt) (λ z. went)))))
+  where
+    from : ℕ
+    from = base + x .offset
+
+    to : ℕ
+    to = reach n base x .to
+
+counted-up : (y : Span) (t : Bool) (w : Walk Span) → NumberedEnd (w .end) → NumberedEnd (counted y t w .end)
+unfolding counted walked bare
+counted-up y true w q = in-thing tt
+counted-up y false w q = q
+
+placed-numbered : (k total : ℕ) (o : Outcome Span) → Numbered o → (rest : ℕ → Walk Span) → ((t : ℕ) → NumberedEnd (rest t .end)) → NumberedEnd (placed k total o rest .end)
+unfolding placed bare
+placed-numbered k total (refused n) (with-number p) rest q = in-cut p
+placed-numbered k total (fine y) p rest q = counted-up y (ltb 65535 (total + sizeOf y)) (rest (total + sizeOf y)) (q (total + sizeOf y))
+
+join-numbered : (place : Extent → Outcome Span) → ((x : Extent) → Numbered (place x)) → (k total : ℕ) (xs : List Extent) → NumberedEnd (join place k total xs .end)
+unfolding join bare
+join-numbered place p k total [] = in-end
+join-numbered place p k total (x ∷ xs) = placed-numbered k total (place x) (p x) (λ t. join place (suc k) t xs) (λ t. join-numbered place p (suc k) t xs)
+
+joined-numbered : (img : List ℕ) → Numbered (joined img)
+unfolding joined joinedFrom plan planOf joinedBy joinedIn
+joined-numbered img =
+    row _ _ (opened-numbered img) (λ m. row _ _ (row _ _ (kept-numbered _) (λ k. row _ _ (chosen-numbered _ (k .wanted)) (λ c. went)))
+    (λ p. row _ _ (source-numbered (length img) (p .idat) (p .entry .method))
+    (λ source. row _ _ (outcome-numbered _ (join-numbered _ (lies-numbered (p .entry .method) (sizeOf source) (p .entry .base)) 0 0 (p .parts))) (λ u. went))))
+
+after-offset-numbered : (offset : ℕ) (ps : List ℕ) → Numbered (blockAfter offset ps)
+unfolding blockAfter
+after-offset-numbered offset ps = row _ _ (require-numbered (leb 4 (length ps)) 25 tt) (λ u. row _ _ (require-numbered (leb offset (length ps - 4)) 26 tt) (λ v. went))
+
+pub block-numbered : (img : List ℕ) → Numbered (block img)
+unfolding block blockIn
+block-numbered img = row _ _ (joined-numbered img) (λ ps. after-offset-numbered _ ps)

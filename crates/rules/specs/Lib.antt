@@ -1,0 +1,5 @@
+pub mod Doc
+pub mod Unfold
+pub mod Cases
+pub mod Laws
+pub mod Demands

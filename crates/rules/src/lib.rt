@@ -1,0 +1,1 @@
+// Document 01 as definitions: they are in specs/, and there is no code here.
