@@ -1,0 +1,78 @@
+-- The invariant: `num` is the number that the first `i` bytes make. The measure is the bytes that are still to come.
+use borrow.Author.Needs.{needs}
+use mathlib.Core.Path.{_≡_, refl}
+use Prim.Native.Nat.{_≤_, _-_}
+use native.Mathlib.Omega.{arith}
+use native.Mathlib.Numerals.{add-one}
+use Rattle.rules.specs.Doc.Bytes.{numberAt}
+use Rattle.rules.specs.Laws.Numbers.{number-below, number-room}
+use Rattle.endian.proofs.load.Statement.{statement}
+use Rattle.endian.proofs.load.Tie as tie
+
+abbrev Inv-loop : tie.InvT-loop
+Inv-loop b from n num₀ i₀ num i = (i ≤ n) × (num ≡ numberAt b from i)
+
+abbrev μ-loop : tie.MeasureT-loop
+μ-loop b from n num₀ i₀ num i = n - i
+
+loop-holds : tie.Need-loop-holds Inv-loop μ-loop
+unfolding numberAt
+loop-holds c = (omega arith, refl)
+
+mul-num : tie.Need-mul-num Inv-loop μ-loop
+mul-num c =
+    let i = c .before .loop .i in
+    let g = c .before .before .shared-slice-known .given in
+    let a = c .before .before .before .args in
+    omega (arith, number-room (a .buf .now) (a .from) i (omega arith) g)
+
+add-wide : tie.Need-add-wide Inv-loop μ-loop
+add-wide c = omega arith
+
+shared-slice-read-wide : tie.Need-shared-slice-read-wide Inv-loop μ-loop
+shared-slice-read-wide c = omega arith
+
+wide-requires : tie.Need-wide-requires Inv-loop μ-loop
+wide-requires c κs = search needs
+
+add-num : tie.Need-add-num Inv-loop μ-loop
+add-num c =
+    let i = c .before .before .before .loop .i in
+    let g = c .before .before .before .before .shared-slice-known .given in
+    let a = c .before .before .before .before .before .args in
+    omega (arith, number-room (a .buf .now) (a .from) i (omega arith) g)
+
+add-i : tie.Need-add-i Inv-loop μ-loop
+add-i c = omega arith
+
+loop-less : tie.Need-loop-less Inv-loop μ-loop
+loop-less c = omega arith
+
+loop-again : tie.Need-loop-again Inv-loop μ-loop
+unfolding numberAt
+loop-again c = (omega arith, rw add-one (omega arith))
+
+returns : tie.Need-returns Inv-loop μ-loop
+returns c =
+    let i = c .before .loop in
+    let g = c .before .before .shared-slice-known .given in
+    let a = c .before .before .before .args in
+    let e : i .i ≡ a .n = omega arith in
+    rw (← e, i .inv .1) (refl, number-below (a .buf .now) (a .from) (i .i) g)
+
+pub load-spec : {M : Type 1} → statement M
+load-spec =
+    tie.close
+    (tie.spec
+    Inv-loop
+    μ-loop
+    loop-holds
+    mul-num
+    add-wide
+    shared-slice-read-wide
+    wide-requires
+    add-num
+    add-i
+    loop-less
+    loop-again
+    returns)
