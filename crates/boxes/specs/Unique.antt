@@ -1,0 +1,164 @@
+-- No two answers say the same, so each contract of this crate determines its function's answer.
+use mathlib.Core.Path.{_≡_, refl, sym, ap, ap₂, _∙_}
+use Prim.Native.Nat.{ℕ, _+_, _-_}
+use native.Mathlib.Omega.{arith}
+use mathlib.Core.List.{List, [], _∷_}
+use lib.ListN.{getD}
+use lib.Dec.{eqb}
+use Rattle.rules.specs.Doc.Outcomes.{if_then_else_, Outcome, fine, refused}
+use Rattle.rules.specs.Doc.Bytes.{sizeOf}
+use Rattle.rules.specs.Doc.Headers.{Box, announced, childAt, fileBoxAt}
+use Rattle.boxes.specs.Told.{number, header, child, fileBox, fieldOf}
+use Rattle.boxes.specs.declared.refusal.Refusal.{Refusal}
+use Rattle.boxes.specs.declared.refusal.Refusal.the-variants as r
+use Rattle.boxes.specs.declared.header.Header.{Header}
+use Rattle.boxes.specs.declared.header.Header.the-variants as h
+use Rattle.boxes.specs.declared.level.Child.{Child}
+use Rattle.boxes.specs.declared.level.Child.the-variants as c
+use Rattle.boxes.specs.declared.level.FileBox.{FileBox}
+use Rattle.boxes.specs.declared.level.FileBox.the-variants as f
+use Rattle.boxes.specs.declared.field.Number.{Number}
+use Rattle.boxes.specs.declared.field.Number.the-variants as n
+
+-- what can be told back has one answer for each thing told
+pub one : {A B : Type 0} (tell : A → B) (back : B → A) → ((x : A) → back (tell x) ≡ x) → {o : B} {x y : A} → tell x ≡ o → tell y ≡ o → x ≡ y
+one tell back same {o} {x} {y} e f = sym (same x) ∙ (ap back (e ∙ sym f) ∙ same y)
+
+-- ---- Refusals
+
+-- from number 1 on
+refusals : List Refusal
+refusals =
+    r.NotFound
+    ∷ r.ImageEnds
+    ∷ r.BoxTooSmall
+    ∷ r.InvalidBoxSize
+    ∷ r.LargeSeek
+    ∷ r.MetaBeforeFtyp
+    ∷ r.NoKnownBrand
+    ∷ r.MetaVersion
+    ∷ r.InfeVersion
+    ∷ r.IlocVersion
+    ∷ r.BaseOffsetSize
+    ∷ r.IndexSize
+    ∷ r.OffsetSize
+    ∷ r.LengthSize
+    ∷ r.ExternalReference
+    ∷ r.NoIloc
+    ∷ r.NoMatchingEntry
+    ∷ r.InvalidOffset
+    ∷ r.InvalidLength
+    ∷ r.OutOfIdat
+    ∷ r.NoIdat
+    ∷ r.ByItemOffset
+    ∷ r.UnknownMethod
+    ∷ r.TooLarge
+    ∷ r.UnderFour
+    ∷ r.HeaderOffset
+    ∷ r.AddressSpace
+    ∷ r.NoRoom
+    ∷ r.ListingTooLong
+    ∷ []
+
+pub asRefusal : ℕ → Refusal
+asRefusal n = getD refusals (n - 1) r.NotFound
+
+pub refusal-back : (x : Refusal) → asRefusal (number x) ≡ x
+unfolding asRefusal refusals
+refusal-back r.NotFound = refl
+refusal-back r.ImageEnds = refl
+refusal-back r.BoxTooSmall = refl
+refusal-back r.InvalidBoxSize = refl
+refusal-back r.LargeSeek = refl
+refusal-back r.MetaBeforeFtyp = refl
+refusal-back r.NoKnownBrand = refl
+refusal-back r.MetaVersion = refl
+refusal-back r.InfeVersion = refl
+refusal-back r.IlocVersion = refl
+refusal-back r.BaseOffsetSize = refl
+refusal-back r.IndexSize = refl
+refusal-back r.OffsetSize = refl
+refusal-back r.LengthSize = refl
+refusal-back r.ExternalReference = refl
+refusal-back r.NoIloc = refl
+refusal-back r.NoMatchingEntry = refl
+refusal-back r.InvalidOffset = refl
+refusal-back r.InvalidLength = refl
+refusal-back r.OutOfIdat = refl
+refusal-back r.NoIdat = refl
+refusal-back r.ByItemOffset = refl
+refusal-back r.UnknownMethod = refl
+refusal-back r.TooLarge = refl
+refusal-back r.UnderFour = refl
+refusal-back r.HeaderOffset = refl
+refusal-back r.AddressSpace = refl
+refusal-back r.NoRoom = refl
+refusal-back r.ListingTooLong = refl
+
+pub refusal-one : {x y : Refusal} → number x ≡ number y → x ≡ y
+refusal-one {x} {y} e = one number asRefusal refusal-back e refl
+
+-- of `Refusal::number`
+pub refusal-number-one : (e : Refusal) {x y : ℕ} → x ≡ number e → y ≡ number e → x ≡ y
+refusal-number-one e p q = p ∙ sym q
+
+-- ---- Headers
+
+-- from what is told with 0 and with 1 for a cut header: only of a cut one do they differ
+asHeader : Outcome Box → Outcome Box → Header
+asHeader (fine b) o = h.Read (b .kind) (b .body .from) (sizeOf (b .body))
+asHeader (refused m) (fine b) = h.Cut
+asHeader (refused m) (refused n) = if eqb m n then h.Invalid else h.Cut
+
+size-back : (from size : ℕ) → from + size - from ≡ size
+size-back from size = omega arith
+
+header-back : (at : ℕ) (x : Header) → asHeader (header 0 at x) (header 1 at x) ≡ x
+unfolding asHeader
+header-back at h.Cut = refl
+header-back at h.Invalid = refl
+header-back at (h.Read kind from size) = rw (size-back from size)
+
+pub header-one : (s : List ℕ) (at : ℕ) {x y : Header}
+    → ((cut : ℕ) → header cut at x ≡ announced cut s at) → ((cut : ℕ) → header cut at y ≡ announced cut s at) → x ≡ y
+header-one s at {x} {y} e f = sym (header-back at x) ∙ (ap₂ asHeader (e 0 ∙ sym (f 0)) (e 1 ∙ sym (f 1)) ∙ header-back at y)
+
+-- ---- Boxes
+
+asChild : Outcome Box → Child
+asChild (fine b) = c.Whole (b .kind) (b .body .from) (b .body .to)
+asChild (refused n) = c.Refused (asRefusal n)
+
+child-back : (at : ℕ) (x : Child) → asChild (child at x) ≡ x
+unfolding asChild
+child-back at (c.Whole kind from to) = refl
+child-back at (c.Refused e) = ap c.Refused (refusal-back e)
+
+pub child-one : (s : List ℕ) (at : ℕ) {x y : Child} → child at x ≡ childAt s at → child at y ≡ childAt s at → x ≡ y
+child-one s at e f = one (child at) asChild (child-back at) e f
+
+asFileBox : Outcome Box → FileBox
+asFileBox (fine b) = f.Found (b .kind) (b .body .from) (sizeOf (b .body))
+asFileBox (refused n) = f.Refused (asRefusal n)
+
+file-back : (at : ℕ) (x : FileBox) → asFileBox (fileBox at x) ≡ x
+unfolding asFileBox
+file-back at (f.Found kind from size) = rw (size-back from size)
+file-back at (f.Refused e) = ap f.Refused (refusal-back e)
+
+pub file-one : (s : List ℕ) (at : ℕ) {x y : FileBox} → fileBox at x ≡ fileBoxAt s at → fileBox at y ≡ fileBoxAt s at → x ≡ y
+file-one s at e f = one (fileBox at) asFileBox (file-back at) e f
+
+-- ---- Fields, of each of the functions that give a number
+
+asNumber : Outcome ℕ → Number
+asNumber (fine v) = n.Got v
+asNumber (refused k) = n.Refused (asRefusal k)
+
+field-back : (x : Number) → asNumber (fieldOf x) ≡ x
+unfolding asNumber
+field-back (n.Got v) = refl
+field-back (n.Refused e) = ap n.Refused (refusal-back e)
+
+pub field-one : {o : Outcome ℕ} {x y : Number} → fieldOf x ≡ o → fieldOf y ≡ o → x ≡ y
+field-one e f = one fieldOf asNumber field-back e f

@@ -1,0 +1,78 @@
+// A box at each of the two levels.
+ghost use mathlib.Core.Path.{_≡_};
+ghost use Rattle.rules.specs.Doc.Headers.{childAt, fileBoxAt};
+ghost use Rattle.boxes.specs.Told.{child, fileBox};
+use crate::header::Header;
+use crate::refusal::Refusal;
+
+// The largest `usize`. On this target no size exceeds it, so 27 is never given; a target of fewer bits has a smaller one.
+const ADDRESS_MAX: u64 = 0xffff_ffff_ffff_ffff;
+
+// A box inside another: its type and where its body is, or why there is none.
+pub enum Child {
+    Whole { kind: u32, from: usize, to: usize },
+    Refused(Refusal),
+}
+
+pub fn child_box(s: &[u8], at: usize) -> Child
+    ensures { λ r. ⌜ child at r ≡ childAt (now (s .entry)) at ⌝ }
+{
+    match Header::read(s, at) {
+        Header::Cut => Child::Refused(Refusal::BoxTooSmall),
+        Header::Invalid => Child::Refused(Refusal::InvalidBoxSize),
+        Header::Read { kind, from, size } => {
+            if ADDRESS_MAX < size {
+                return Child::Refused(Refusal::AddressSpace);
+            }
+            if size > (s.len() - from) as u64 {
+                return Child::Refused(Refusal::BoxTooSmall);
+            }
+            Child::Whole {
+                kind: kind,
+                from: from,
+                to: from + size as usize,
+            }
+        }
+    }
+}
+
+// The types that are opened at the top level; every other is skipped.
+pub const FTYP: u32 = 0x66747970;
+
+pub const META: u32 = 0x6d657461;
+
+// A body of this size or more is too large to skip.
+const LARGE: u64 = 0x8000_0000_0000_0000;
+
+// A box of a file: its body may run past the end.
+pub enum FileBox {
+    Found { kind: u32, from: usize, size: u64 },
+    Refused(Refusal),
+}
+
+// `read_box_header` of the Rust, with the test of `skip_file_level_box`.
+pub fn file_box(s: &[u8], at: usize) -> FileBox
+    ensures { λ r. ⌜ fileBox at r ≡ fileBoxAt (now (s .entry)) at ⌝ }
+{
+    match Header::read(s, at) {
+        Header::Cut => FileBox::Refused(Refusal::ImageEnds),
+        Header::Invalid => FileBox::Refused(Refusal::InvalidBoxSize),
+        Header::Read { kind, from, size } => {
+            let found = FileBox::Found {
+                kind: kind,
+                from: from,
+                size: size,
+            };
+            match kind {
+                FTYP | META => found,
+                _ => {
+                    if size < LARGE {
+                        found
+                    } else {
+                        FileBox::Refused(Refusal::LargeSeek)
+                    }
+                }
+            }
+        }
+    }
+}

@@ -1,0 +1,43 @@
+ghost use mathlib.Core.Path.{_≡_};
+ghost use Rattle.boxes.specs.Told.{number};
+
+// Why there is no answer, with document 01's numbers.
+pub enum Refusal {
+    NotFound = 1,
+    ImageEnds = 2,
+    BoxTooSmall = 3,
+    InvalidBoxSize = 4,
+    LargeSeek = 5,
+    MetaBeforeFtyp = 6,
+    NoKnownBrand = 7,
+    MetaVersion = 8,
+    InfeVersion = 9,
+    IlocVersion = 10,
+    BaseOffsetSize = 11,
+    IndexSize = 12,
+    OffsetSize = 13,
+    LengthSize = 14,
+    ExternalReference = 15,
+    NoIloc = 16,
+    NoMatchingEntry = 17,
+    InvalidOffset = 18,
+    InvalidLength = 19,
+    OutOfIdat = 20,
+    NoIdat = 21,
+    ByItemOffset = 22,
+    UnknownMethod = 23,
+    TooLarge = 24,
+    UnderFour = 25,
+    HeaderOffset = 26,
+    AddressSpace = 27,
+    NoRoom = 28,
+    ListingTooLong = 29,
+}
+
+impl Refusal {
+    pub fn number(self) -> u8
+        ensures { λ r. ⌜ r ≡ number self ⌝ }
+    {
+        self as u8
+    }
+}
