@@ -1,0 +1,132 @@
+-- The outer loop: the boxes from `at` on decide the answer. The inner loop: the brands from `i` on do.
+use mathlib.Core.Path.{_≡_}
+use Prim.Native.Nat.{_≤_, _-_}
+use native.Mathlib.Omega.{arith}
+use lib.ListN.{length}
+use Rattle.rules.specs.Doc.Heif.{isHeif}
+use Rattle.rules.specs.Laws.Headers.{child-inside}
+use Rattle.brands.specs.Brands.{knownFrom, brand-none, brand-known, brand-other, heifFrom, heif-start, heif-done, heif-refused, heif-other, heif-small, heif-brands}
+use borrow.Author.Needs.{needs}
+use Rattle.brands.proofs.is_heif.Statement.{statement}
+use Rattle.brands.proofs.is_heif.Tie as tie
+
+abbrev Inv-loop : tie.InvT-loop
+Inv-loop buf at kind from to body i₀ i = (i ≤ length body) × (knownFrom body i ≡ isHeif buf)
+
+abbrev μ-loop : tie.MeasureT-loop
+μ-loop buf at kind from to body i₀ i = length body - i
+
+abbrev Inv-boxes : tie.InvT-boxes
+Inv-boxes buf at₀ at = heifFrom buf at ≡ isHeif buf
+
+abbrev μ-boxes : tie.MeasureT-boxes
+μ-boxes buf at₀ at = length buf - at
+
+boxes-holds : tie.Need-boxes-holds Inv-loop μ-loop Inv-boxes μ-boxes
+boxes-holds c = heif-start _
+
+child-box-requires : tie.Need-child-box-requires Inv-loop μ-loop Inv-boxes μ-boxes
+child-box-requires c κs = search needs
+
+enum-told : tie.Need-enum-told Inv-loop μ-loop Inv-boxes μ-boxes
+enum-told c = search needs
+
+enum-known-kind : tie.Need-enum-known-kind Inv-loop μ-loop Inv-boxes μ-boxes
+enum-known-kind c = search needs
+
+sub-body : tie.Need-sub-body Inv-loop μ-loop Inv-boxes μ-boxes
+sub-body c = child-inside _ _ (rw (c .before .before .kind .given .1) at (c .before .before .before .before .child-box .ensures)) .order
+
+part-body-start : tie.Need-part-body-start Inv-loop μ-loop Inv-boxes μ-boxes
+part-body-start c =
+    let i = child-inside _ _ (rw (c .before .before .kind .given .1) at (c .before .before .before .before .child-box .ensures)) in
+    omega arith
+
+part-body-end : tie.Need-part-body-end Inv-loop μ-loop Inv-boxes μ-boxes
+part-body-end c = child-inside _ _ (rw (c .before .before .kind .given .1) at (c .before .before .before .before .child-box .ensures)) .inner
+
+loop-holds : tie.Need-loop-holds Inv-loop μ-loop Inv-boxes μ-boxes
+loop-holds c =
+    let b = rw (c .before .before .before .before .kind .given .1) at (c .before .before .before .before .before .before .child-box .ensures) in
+    let boxes = c .before .before .before .before .before .before .before .before .boxes in
+    let more = c .before .before .before .before .before .before .before .if1 .left in
+    (omega arith, heif-brands _ _ (boxes .inv) more b (c .before .before .if2 .taken) (c .if3 .left))
+
+sub-loop : tie.Need-sub-loop Inv-loop μ-loop Inv-boxes μ-boxes
+sub-loop c = search needs
+
+loadu32-requires : tie.Need-loadu32-requires Inv-loop μ-loop Inv-boxes μ-boxes
+loadu32-requires c κs = search needs
+
+is-known-requires : tie.Need-is-known-requires Inv-loop μ-loop Inv-boxes μ-boxes
+is-known-requires c κs = search needs
+
+add-i : tie.Need-add-i Inv-loop μ-loop Inv-boxes μ-boxes
+add-i c = search needs
+
+loop-less : tie.Need-loop-less Inv-loop μ-loop Inv-boxes μ-boxes
+loop-less c = search needs
+
+loop-again : tie.Need-loop-again Inv-loop μ-loop Inv-boxes μ-boxes
+loop-again c = (omega arith, search brand-other)
+
+boxes-less : tie.Need-boxes-less Inv-loop μ-loop Inv-boxes μ-boxes
+boxes-less c =
+    let i = child-inside _ _ (rw (c .before .before .kind .given .1) at (c .before .before .before .before .child-box .ensures)) in
+    omega arith
+
+boxes-again : tie.Need-boxes-again Inv-loop μ-loop Inv-boxes μ-boxes
+boxes-again c =
+    let b = rw (c .before .before .kind .given .1) at (c .before .before .before .before .child-box .ensures) in
+    let boxes = c .before .before .before .before .before .before .boxes in
+    let more = c .before .before .before .before .before .if1 .left in
+    heif-other _ _ (boxes .inv) more b (c .if2 .left)
+
+returns : tie.Need-returns Inv-loop μ-loop Inv-boxes μ-boxes
+returns c = search heif-done
+
+returns-2 : tie.Need-returns-2 Inv-loop μ-loop Inv-boxes μ-boxes
+returns-2 c =
+    let b = rw (c .enum-told .given .1) at (c .before .before .child-box .ensures) in
+    search heif-refused
+
+returns-3 : tie.Need-returns-3 Inv-loop μ-loop Inv-boxes μ-boxes
+returns-3 c =
+    let b = rw (c .before .before .before .before .kind .given .1) at (c .before .before .before .before .before .before .child-box .ensures) in
+    search heif-small
+
+returns-4 : tie.Need-returns-4 Inv-loop μ-loop Inv-boxes μ-boxes
+returns-4 c = search brand-known
+
+returns-5 : tie.Need-returns-5 Inv-loop μ-loop Inv-boxes μ-boxes
+returns-5 c = search brand-none
+
+pub is-heif-spec : {M : Type 1} → statement M
+is-heif-spec =
+    tie.close
+    (tie.spec
+    Inv-loop
+    μ-loop
+    Inv-boxes
+    μ-boxes
+    boxes-holds
+    child-box-requires
+    enum-told
+    enum-known-kind
+    sub-body
+    part-body-start
+    part-body-end
+    loop-holds
+    sub-loop
+    loadu32-requires
+    is-known-requires
+    add-i
+    loop-less
+    loop-again
+    boxes-less
+    boxes-again
+    returns
+    returns-2
+    returns-3
+    returns-4
+    returns-5)

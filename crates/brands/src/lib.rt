@@ -1,0 +1,78 @@
+// The file type box: one of two brands must be among the compatible ones.
+ghost use mathlib.Core.Path.{_≡_};
+ghost use Rattle.rules.specs.Doc.Ftyp.{known, brandTest};
+ghost use Rattle.rules.specs.Doc.Heif.{isHeif};
+ghost use Rattle.brands.specs.Told.{ftypOf};
+use boxes::Child;
+use boxes::FTYP;
+use boxes::Refusal;
+
+const MIF1: u32 = 0x6d696631;
+
+const MSF1: u32 = 0x6d736631;
+
+// Where the compatible brands begin: after the major brand and the minor version.
+const COMPATIBLE: usize = 8;
+
+fn is_known(brand: u32) -> bool
+    ensures { λ r. ⌜ r ≡ known brand ⌝ }
+{
+    match brand {
+        MIF1 | MSF1 => true,
+        _ => false,
+    }
+}
+
+// What the test of an `ftyp` says.
+pub enum Ftyp {
+    Known,
+    Refused(Refusal),
+}
+
+pub fn parse_ftyp(body: &[u8]) -> Ftyp
+    ensures { λ r. ⌜ ftypOf r ≡ brandTest (now (body .entry)) ⌝ }
+{
+    if body.len() < COMPATIBLE {
+        return Ftyp::Refused(Refusal::BoxTooSmall);
+    }
+    let mut at = COMPATIBLE;
+    while 4 <= body.len() - at {
+        if is_known(endian::loadu32(body, at)) {
+            return Ftyp::Known;
+        }
+        at += 4;
+    }
+    Ftyp::Refused(Refusal::NoKnownBrand)
+}
+
+// By the first `ftyp` alone, with boxes as inside a box. The first matching brand ends both walks.
+pub fn is_heif(buf: &[u8]) -> bool
+    ensures { λ r. ⌜ r ≡ isHeif (now (buf .entry)) ⌝ }
+{
+    let mut at: usize = 0;
+    'boxes: loop {
+        if buf.len() <= at {
+            break 'boxes false;
+        }
+        match boxes::child_box(buf, at) {
+            Child::Refused(_) => break 'boxes false,
+            Child::Whole { kind, from, to } => {
+                if kind == FTYP {
+                    let body = &buf[from..to];
+                    if body.len() < COMPATIBLE {
+                        break 'boxes false;
+                    }
+                    let mut i = COMPATIBLE;
+                    while 4 <= body.len() - i {
+                        if is_known(endian::loadu32(body, i)) {
+                            break 'boxes true;
+                        }
+                        i += 4;
+                    }
+                    break 'boxes false;
+                }
+                at = to;
+            }
+        }
+    }
+}
