@@ -1,4 +1,4 @@
--- Variant by variant, the number that is written beside it is the one of the table.
+-- Variant by variant: the number that is written beside it fits a byte, and is the one of the table. A sum of 29 is taken apart one by one.
 use mathlib.Core.Logic.{⊎-elim}
 use mir.Facts.{fits-lit}
 use borrow.Author.Needs.{needs}
