@@ -113,7 +113,7 @@ extents z body e = run (λ at. extentMet (at + extentWidth z) (extentAt z body a
 unfoldable pub isWanted : ℕ → Entry → Bool
 isWanted wanted e = eqb (e .id) wanted
 
--- The extents' bytes: extent count times the sum of the three sizes.
+-- Where the extents end: their bytes are extent count times the sum of the three sizes.
 unfoldable pub entryEnd : Table → Entry → ℕ
 entryEnd t e = e .from + e .count * extentWidth (t .sizes)
 

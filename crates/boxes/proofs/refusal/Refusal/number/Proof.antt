@@ -1,9 +1,20 @@
 -- Variant by variant: the number that is written beside it fits a byte, and is the one of the table. A sum of 29 is taken apart one by one.
 use mathlib.Core.Logic.{⊎-elim}
 use mir.Facts.{fits-lit}
+use mir.Syntax.{w8, w64}
+use mir.Val.{Fits, toZ}
+use lib.IntN.{natAbs}
+use lib.Signed.{nonNeg}
+use lib.Dec.{T}
+use mathlib.Core.Path.{_≡_, refl}
+use Prim.Native.Nat.{ℕ}
+use Rattle.boxes.specs.Told.{number}
+use Rattle.boxes.specs.declared.refusal.Refusal.{Refusal}
 use borrow.Author.Needs.{needs}
 use Rattle.boxes.proofs.refusal.Refusal.number.Statement.{statement}
 use Rattle.boxes.proofs.refusal.Refusal.number.Tie as tie
+use Rattle.boxes.proofs.refusal.Refusal.number.Reads as reads
+use Rattle.boxes.proofs.refusal.Refusal.number.Lts as lts
 
 enum-told : tie.Need-enum-told
 enum-told c = search needs
@@ -92,69 +103,47 @@ enum-told-28 c = search needs
 enum-told-29 : tie.Need-enum-told-29
 enum-told-29 c = search needs
 
+-- a number that is no less than 0, fits a byte, and is the one of the table
+abbrev Right : ℕ → Refusal → Type 0
+Right n e = (T (nonNeg (toZ w64 n)) × Fits w8 (natAbs (toZ w64 n))) × (natAbs (toZ w64 n) ≡ number e)
+
+by-variant : (c : lts.At-match-came reads.Pre reads.Post) → Right (c .match .result) (c .before .args .self)
+by-variant c =
+    ⊎-elim (λ w. rw (w .2, w .1 .given .1) ((tt, fits-lit tt), refl))
+    (⊎-elim (λ w. rw (w .2, w .1 .given .1) ((tt, fits-lit tt), refl))
+    (⊎-elim (λ w. rw (w .2, w .1 .given .1) ((tt, fits-lit tt), refl))
+    (⊎-elim (λ w. rw (w .2, w .1 .given .1) ((tt, fits-lit tt), refl))
+    (⊎-elim (λ w. rw (w .2, w .1 .given .1) ((tt, fits-lit tt), refl))
+    (⊎-elim (λ w. rw (w .2, w .1 .given .1) ((tt, fits-lit tt), refl))
+    (⊎-elim (λ w. rw (w .2, w .1 .given .1) ((tt, fits-lit tt), refl))
+    (⊎-elim (λ w. rw (w .2, w .1 .given .1) ((tt, fits-lit tt), refl))
+    (⊎-elim (λ w. rw (w .2, w .1 .given .1) ((tt, fits-lit tt), refl))
+    (⊎-elim (λ w. rw (w .2, w .1 .given .1) ((tt, fits-lit tt), refl))
+    (⊎-elim (λ w. rw (w .2, w .1 .given .1) ((tt, fits-lit tt), refl))
+    (⊎-elim (λ w. rw (w .2, w .1 .given .1) ((tt, fits-lit tt), refl))
+    (⊎-elim (λ w. rw (w .2, w .1 .given .1) ((tt, fits-lit tt), refl))
+    (⊎-elim (λ w. rw (w .2, w .1 .given .1) ((tt, fits-lit tt), refl))
+    (⊎-elim (λ w. rw (w .2, w .1 .given .1) ((tt, fits-lit tt), refl))
+    (⊎-elim (λ w. rw (w .2, w .1 .given .1) ((tt, fits-lit tt), refl))
+    (⊎-elim (λ w. rw (w .2, w .1 .given .1) ((tt, fits-lit tt), refl))
+    (⊎-elim (λ w. rw (w .2, w .1 .given .1) ((tt, fits-lit tt), refl))
+    (⊎-elim (λ w. rw (w .2, w .1 .given .1) ((tt, fits-lit tt), refl))
+    (⊎-elim (λ w. rw (w .2, w .1 .given .1) ((tt, fits-lit tt), refl))
+    (⊎-elim (λ w. rw (w .2, w .1 .given .1) ((tt, fits-lit tt), refl))
+    (⊎-elim (λ w. rw (w .2, w .1 .given .1) ((tt, fits-lit tt), refl))
+    (⊎-elim (λ w. rw (w .2, w .1 .given .1) ((tt, fits-lit tt), refl))
+    (⊎-elim (λ w. rw (w .2, w .1 .given .1) ((tt, fits-lit tt), refl))
+    (⊎-elim (λ w. rw (w .2, w .1 .given .1) ((tt, fits-lit tt), refl))
+    (⊎-elim (λ w. rw (w .2, w .1 .given .1) ((tt, fits-lit tt), refl))
+    (⊎-elim (λ w. rw (w .2, w .1 .given .1) ((tt, fits-lit tt), refl))
+    (⊎-elim (λ w. rw (w .2, w .1 .given .1) ((tt, fits-lit tt), refl))
+    (λ w. rw (w .2, w .1 .given .1) ((tt, fits-lit tt), refl))))))))))))))))))))))))))))) (c .match .came)
+
 cast-result : tie.Need-cast-result
-cast-result c =
-    ⊎-elim (λ w. rw (w .2) (tt, fits-lit tt))
-    (⊎-elim (λ w. rw (w .2) (tt, fits-lit tt))
-    (⊎-elim (λ w. rw (w .2) (tt, fits-lit tt))
-    (⊎-elim (λ w. rw (w .2) (tt, fits-lit tt))
-    (⊎-elim (λ w. rw (w .2) (tt, fits-lit tt))
-    (⊎-elim (λ w. rw (w .2) (tt, fits-lit tt))
-    (⊎-elim (λ w. rw (w .2) (tt, fits-lit tt))
-    (⊎-elim (λ w. rw (w .2) (tt, fits-lit tt))
-    (⊎-elim (λ w. rw (w .2) (tt, fits-lit tt))
-    (⊎-elim (λ w. rw (w .2) (tt, fits-lit tt))
-    (⊎-elim (λ w. rw (w .2) (tt, fits-lit tt))
-    (⊎-elim (λ w. rw (w .2) (tt, fits-lit tt))
-    (⊎-elim (λ w. rw (w .2) (tt, fits-lit tt))
-    (⊎-elim (λ w. rw (w .2) (tt, fits-lit tt))
-    (⊎-elim (λ w. rw (w .2) (tt, fits-lit tt))
-    (⊎-elim (λ w. rw (w .2) (tt, fits-lit tt))
-    (⊎-elim (λ w. rw (w .2) (tt, fits-lit tt))
-    (⊎-elim (λ w. rw (w .2) (tt, fits-lit tt))
-    (⊎-elim (λ w. rw (w .2) (tt, fits-lit tt))
-    (⊎-elim (λ w. rw (w .2) (tt, fits-lit tt))
-    (⊎-elim (λ w. rw (w .2) (tt, fits-lit tt))
-    (⊎-elim (λ w. rw (w .2) (tt, fits-lit tt))
-    (⊎-elim (λ w. rw (w .2) (tt, fits-lit tt))
-    (⊎-elim (λ w. rw (w .2) (tt, fits-lit tt))
-    (⊎-elim (λ w. rw (w .2) (tt, fits-lit tt))
-    (⊎-elim (λ w. rw (w .2) (tt, fits-lit tt))
-    (⊎-elim (λ w. rw (w .2) (tt, fits-lit tt))
-    (⊎-elim (λ w. rw (w .2) (tt, fits-lit tt))
-    (λ w. rw (w .2) (tt, fits-lit tt))))))))))))))))))))))))))))) (c .match .came)
+cast-result c = by-variant c .0
 
 returns : tie.Need-returns
-returns c =
-    ⊎-elim (λ w. rw (w .2, w .1 .given .1))
-    (⊎-elim (λ w. rw (w .2, w .1 .given .1))
-    (⊎-elim (λ w. rw (w .2, w .1 .given .1))
-    (⊎-elim (λ w. rw (w .2, w .1 .given .1))
-    (⊎-elim (λ w. rw (w .2, w .1 .given .1))
-    (⊎-elim (λ w. rw (w .2, w .1 .given .1))
-    (⊎-elim (λ w. rw (w .2, w .1 .given .1))
-    (⊎-elim (λ w. rw (w .2, w .1 .given .1))
-    (⊎-elim (λ w. rw (w .2, w .1 .given .1))
-    (⊎-elim (λ w. rw (w .2, w .1 .given .1))
-    (⊎-elim (λ w. rw (w .2, w .1 .given .1))
-    (⊎-elim (λ w. rw (w .2, w .1 .given .1))
-    (⊎-elim (λ w. rw (w .2, w .1 .given .1))
-    (⊎-elim (λ w. rw (w .2, w .1 .given .1))
-    (⊎-elim (λ w. rw (w .2, w .1 .given .1))
-    (⊎-elim (λ w. rw (w .2, w .1 .given .1))
-    (⊎-elim (λ w. rw (w .2, w .1 .given .1))
-    (⊎-elim (λ w. rw (w .2, w .1 .given .1))
-    (⊎-elim (λ w. rw (w .2, w .1 .given .1))
-    (⊎-elim (λ w. rw (w .2, w .1 .given .1))
-    (⊎-elim (λ w. rw (w .2, w .1 .given .1))
-    (⊎-elim (λ w. rw (w .2, w .1 .given .1))
-    (⊎-elim (λ w. rw (w .2, w .1 .given .1))
-    (⊎-elim (λ w. rw (w .2, w .1 .given .1))
-    (⊎-elim (λ w. rw (w .2, w .1 .given .1))
-    (⊎-elim (λ w. rw (w .2, w .1 .given .1))
-    (⊎-elim (λ w. rw (w .2, w .1 .given .1))
-    (⊎-elim (λ w. rw (w .2, w .1 .given .1))
-    (λ w. rw (w .2, w .1 .given .1))))))))))))))))))))))))))))) (c .match .came)
+returns c = by-variant c .1
 
 pub number-spec : {M : Type 1} → statement M
 number-spec =
