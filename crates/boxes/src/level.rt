@@ -6,7 +6,7 @@ use crate::header::Header;
 use crate::refusal::Refusal;
 
 // The largest `usize`. On this target no size exceeds it, so 27 is never given; a target of fewer bits has a smaller one.
-const ADDRESS_MAX: u64 = 0xffff_ffff_ffff_ffff;
+pub const ADDRESS_MAX: u64 = 0xffff_ffff_ffff_ffff;
 
 // A box inside another: its type and where its body is, or why there is none.
 pub enum Child {

@@ -11,6 +11,7 @@ pub use field::uint16;
 pub use field::uint32;
 pub use field::uint64;
 pub use header::Header;
+pub use level::ADDRESS_MAX;
 pub use level::Child;
 pub use level::FTYP;
 pub use level::FileBox;

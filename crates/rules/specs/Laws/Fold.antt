@@ -1,23 +1,23 @@
 -- What a walk over boxes comes to, box by box: one equation at any level for a loop of the code to follow.
 use mathlib.Core.Path.{_≡_, refl, sym, ap, _∙_}
-use Prim.Native.Nat.{ℕ, _≤_, _<_}
+use Prim.Native.Nat.{ℕ, suc, _≤_, _<_}
 use mathlib.Core.Bool.{Bool, true, false}
 use mathlib.Core.Option.{Option, none, some}
 use mathlib.Core.List.{List, [], _∷_}
 use lib.ListN.{length}
 use borrow.Author.Tests.{le-leb, lt-leb}
 use Rattle.rules.specs.Doc.Outcomes.{if_then_else_, Outcome, fine, refused, _>>=_, given}
-use Rattle.rules.specs.Doc.Walks.{onward, halt, End, ended, cutAt, refusedAt, stoppedAt, Walk, bare, walked, judged, after}
-use Rattle.rules.specs.Doc.Headers.{ftyp, Header, headerAt, bodySize, Box, boxWith, is, whole, skips, announced, boxAt, fileBoxAt}
-use Rattle.rules.specs.Doc.Levels.{Level, tested, said, decided, boxStep, levelStep, boxes}
+use Rattle.rules.specs.Doc.Walks.{onward, halt, End, ended, cutAt, refusedAt, stoppedAt, Walk, bare, walked, judged, after, run, outcome}
+use Rattle.rules.specs.Doc.Headers.{ftyp, Header, headerAt, bodySize, Box, boxWith, is, whole, skips, announced, boxAt, childAt, fileBoxAt}
+use Rattle.rules.specs.Doc.Levels.{Level, tested, said, decided, boxStep, levelStep, boxes, countedBoxes, inside}
 use Rattle.rules.specs.Doc.Ftyp.{topFits, stopped}
 use Rattle.rules.specs.Laws.Rows.{bind-cong}
 use Rattle.rules.specs.Laws.Unroll.{boxes-unroll}
 
--- the state after some boxes
-unfoldable pub folded : {S : Type 0} → (S → Box → S) → S → List Box → S
+-- the state after the things of a list, each in its turn
+unfoldable pub folded : {S A : Type 0} → (S → A → S) → S → List A → S
 folded f st [] = st
-folded f st (b ∷ bs) = folded f (f st b) bs
+folded f st (x ∷ xs) = folded f (f st x) xs
 
 -- what the walk's end makes of that state: `done` at the end of the bytes, `halted` at the box that ended the walk
 unfoldable pub ending : {S R : Type 0} → (S → Outcome R) → (S → Box → Outcome R) → S → End Box → Outcome R
@@ -76,6 +76,70 @@ module _ {S R : Type 0} (f : S → Box → S) (done : S → Outcome R) (halted :
   pub level-done : (st : S) (at : ℕ) → length s ≤ at → closed f done halted st (boxes l s at) ≡ done st
   unfolding levelStep after bare closed ending folded
   level-done st at k = ap (closed f done halted st) (boxes-unroll l s at) ∙ rw (le-leb (length s) at k)
+
+  -- The same of a count of boxes: one of them, and then the others. The bytes need not end where the count does.
+  pub counted-next : (st : S) (n at : ℕ)
+      → closed f done halted st (countedBoxes l s (suc n) at)
+      ≡ (boxAt (l .cutNumber) (l .fits (length s)) s at >>= λ b. tested l s b >>= λ u. onwards st (countedBoxes l s n) b)
+  unfolding countedBoxes run boxAt announced
+  counted-next st n at = step-next st at (countedBoxes l s n) (headerAt s at)
+
+  pub counted-done : (st : S) (at : ℕ) → closed f done halted st (countedBoxes l s 0 at) ≡ done st
+  unfolding countedBoxes run bare closed ending folded
+  counted-done st at = refl
+
+-- ---- What a walk inside a box leaves
+
+-- the state that a walk leaves, or the refusal that ends it
+unfoldable pub leaves : {S : Type 0} → (S → Box → S) → S → Walk Box → Outcome S
+leaves f st w = outcome (w .end) >>= λ u. fine (folded f st (w .list))
+
+leaves-closed : {S : Type 0} (f : S → Box → S) (st : S) (w : Walk Box) → leaves f st w ≡ closed f fine (λ st b. fine st) st w
+unfolding leaves closed ending outcome
+leaves-closed {S} f st w = go (folded f st (w .list)) (w .end)
+  where
+    go : (st : S) (e : End Box) → (outcome e >>= λ u. fine st) ≡ ending fine (λ st b. fine st) st e
+    go st ended = refl
+    go st (cutAt n at) = refl
+    go st (refusedAt n b) = refl
+    go st (stoppedAt b) = refl
+
+-- `read` reads a box as it is met: it refuses what the level's test refuses, and else does what the fold does
+module _ {S : Type 0} (f : S → Box → S) (opens : ℕ → Bool) (test : List ℕ → Outcome (Unit {0})) (s : List ℕ)
+    (read : S → Box → Outcome S) (agree : (st : S) (b : Box) → read st b ≡ (tested (inside opens test) s b >>= λ u. fine (f st b))) where
+  abbrev l : Level
+  l = inside opens test
+
+  -- a box, what is read of it, and then the boxes after it
+  unfoldable pub readNext : S → (ℕ → Walk Box) → Box → Outcome S
+  readNext st go b = read st b >>= λ st. leaves f st (go (b .body .to))
+
+  read-next : (st : S) (go : ℕ → Walk Box) (b : Box)
+      → (tested l s b >>= λ u. onwards f fine (λ st b. fine st) l s st go b) ≡ readNext st go b
+  unfolding readNext onwards inside
+  read-next st go b = rw (agree st b) (row (tested l s b))
+    where
+      row : (o : Outcome (Unit {0}))
+          → (o >>= λ u. closed f fine (λ st b. fine st) (f st b) (go (b .body .to))) ≡ ((o >>= λ u. fine (f st b)) >>= λ st. leaves f st (go (b .body .to)))
+      row (fine u) = sym (leaves-closed f (f st b) (go (b .body .to)))
+      row (refused n) = refl
+
+  pub children-next : (st : S) (at : ℕ) → at < length s → leaves f st (boxes l s at) ≡ (childAt s at >>= readNext st (boxes l s))
+  unfolding childAt inside
+  children-next st at k =
+      leaves-closed f st (boxes l s at) ∙ level-next f fine (λ st b. fine st) l s st at k ∙ bind-cong (childAt s at) (read-next st (boxes l s))
+
+  pub children-done : (st : S) (at : ℕ) → length s ≤ at → leaves f st (boxes l s at) ≡ fine st
+  children-done st at k = leaves-closed f st (boxes l s at) ∙ level-done f fine (λ st b. fine st) l s st at k
+
+  pub counted-children-next : (st : S) (n at : ℕ) → leaves f st (countedBoxes l s (suc n) at) ≡ (childAt s at >>= readNext st (countedBoxes l s n))
+  unfolding childAt inside
+  counted-children-next st n at =
+      leaves-closed f st (countedBoxes l s (suc n) at) ∙ counted-next f fine (λ st b. fine st) l s st n at
+      ∙ bind-cong (childAt s at) (read-next st (countedBoxes l s n))
+
+  pub counted-children-done : (st : S) (at : ℕ) → leaves f st (countedBoxes l s 0 at) ≡ fine st
+  counted-children-done st at = leaves-closed f st (countedBoxes l s 0 at) ∙ counted-done f fine (λ st b. fine st) l s st at
 
 -- ---- The box that ends a walk
 

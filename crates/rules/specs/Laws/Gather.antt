@@ -3,18 +3,19 @@ use mathlib.Core.Path.{_≡_, refl, sym, ap, _∙_}
 use Prim.Native.Nat.{ℕ, zero, suc, _+_, _-_, _^_, _≤_, _<_}
 use native.Mathlib.Omega.{arith}
 use mathlib.Core.Bool.{Bool, true, false, _&&_}
+use mathlib.Core.Option.{Option, none, some}
 use mathlib.Core.List.{List, [], _∷_, _++_, map}
 use lib.ListN.{length, take, drop, length-map}
 use lib.Seq.{drop-cons}
 use lib.Dec.{leb, ltb, eqb}
 use borrow.Author.Tests.{leb-true}
-use Rattle.rules.specs.Doc.Outcomes.{if_then_else_, Outcome, fine, refused, _>>=_, require, once}
+use Rattle.rules.specs.Doc.Outcomes.{if_then_else_, Outcome, fine, refused, _>>=_, require, given, once}
 use Rattle.rules.specs.Doc.Lists.{each}
 use Rattle.rules.specs.Doc.Bytes.{byteAt, numberAt, part, positions, Span, sizeOf, bytesIn}
 use Rattle.rules.specs.Doc.Walks.{Walk, bare, walked, outcome}
 use Rattle.rules.specs.Doc.Headers.{addressable}
 use Rattle.rules.specs.Doc.Meta.{opened}
-use Rattle.rules.specs.Doc.Iloc.{Extent}
+use Rattle.rules.specs.Doc.Iloc.{Extent, extents, Chosen, chosen}
 use Rattle.rules.specs.Doc.Join.{Plan, plan, sourceOf, reach, inImage, inIdat, lies, counted, placed, join, positionsIn, joinedIn, joinedBy, joinedFrom, joined}
 use Rattle.rules.specs.Doc.Block.{bytesAt, firstFour, blockAfter, blockIn, block}
 use Rattle.rules.specs.Doc.Answers.{Answer, handed, answerWith, answer}
@@ -51,6 +52,28 @@ blockOf bytes = blockAfter (numberAt bytes 0 4) bytes
 -- the block of extents that lie in s
 unfoldable pub blockFrom : (Extent → Outcome Span) → List ℕ → List Extent → Outcome (List ℕ)
 blockFrom place s xs = totalFrom place 0 xs >>= λ t. blockOf (gathered place s xs)
+
+-- an `idat` that may be there
+unfoldable pub storeOf : Bool → List ℕ → Option (List ℕ)
+storeOf true s = some s
+storeOf false s = none
+
+-- the bytes that a method names, of an image and of an `idat` that may be there
+unfoldable pub named : List ℕ → Option (List ℕ) → ℕ → Outcome (List ℕ)
+named img store method =
+    if eqb method 0 then fine img
+    else if eqb method 1 then given store 21
+    else if eqb method 2 then refused 22
+    else refused 23
+
+-- steps 9 and 10 for a chosen entry of the table
+unfoldable pub chosenBlock : List ℕ → Option (List ℕ) → List ℕ → Chosen → Outcome (List ℕ)
+chosenBlock img store table c =
+    named img store (c .entry .method) >>= λ s. blockFrom (lies (c .entry .method) (length s) (c .entry .base)) s (extents (c .sizes) table (c .entry) .list)
+
+-- steps 7 to 10
+unfoldable pub itemBlock : List ℕ → Option (List ℕ) → List ℕ → ℕ → Outcome (List ℕ)
+itemBlock img store table wanted = chosen table wanted >>= chosenBlock img store table
 
 -- the block of an image, step by step
 unfoldable pub blockBytes : List ℕ → Outcome (List ℕ)

@@ -1,16 +1,16 @@
 -- Where a box lies: a header that is there whole, the box that it announces, a box of either level.
 use mathlib.Core.Path.{_≡_, refl, subst}
-use Prim.Native.Nat.{ℕ, _+_, _-_, _≤_}
+use Prim.Native.Nat.{ℕ, _+_, _-_, _^_, _≤_, _<_}
 use native.Mathlib.Omega.{arith}
-use mathlib.Core.Bool.{Bool, true, false}
+use mathlib.Core.Bool.{Bool, true, false, _||_}
 use mathlib.Core.Option.{Option, none, some}
 use mathlib.Core.List.{List}
 use lib.ListN.{length}
 use lib.Dec.{leb, ltb, eqb}
-use borrow.Author.Tests.{ltb-false, leb-true}
+use borrow.Author.Tests.{ltb-true, ltb-false, leb-true, ne-eqb}
 use Rattle.rules.specs.Doc.Outcomes.{Outcome, fine, _>>=_, require, given}
 use Rattle.rules.specs.Doc.Bytes.{numberAt, sizeOf}
-use Rattle.rules.specs.Doc.Headers.{Header, headerOf, headerAt, bodySize, Box, boxWith, addressable, whole, announced, boxAt, childAt}
+use Rattle.rules.specs.Doc.Headers.{ftyp, meta, Header, headerOf, headerAt, bodySize, Box, boxWith, is, addressable, whole, skips, announced, boxAt, childAt, fileBoxAt}
 use Rattle.rules.specs.Laws.Rows.{apart, bind-fine, required}
 
 -- in n bytes, the box that a header at `at` announces: its body begins in them
@@ -99,3 +99,15 @@ child-inside s at {b} e =
     let (p, q) = passed 3 (whole 3 (length s)) s at e in
     let i = begins 3 s at p in
     record { starts = i .starts; ahead = i .ahead; order = i .order; inner = whole-fits 3 (length s) b q }
+
+pub file-begins : (s : List ℕ) (at : ℕ) {b : Box} → fine b ≡ fileBoxAt s at → Begins (length s) at b
+unfolding fileBoxAt
+file-begins s at e = begins 2 s at (passed 2 skips s at e .0)
+
+-- a box of a file that is skipped is not too large for that
+pub file-small : (s : List ℕ) (at : ℕ) {b : Box} → fine b ≡ fileBoxAt s at → (b .kind ≡ ftyp → ⊥) → (b .kind ≡ meta → ⊥) → sizeOf (b .body) < 2 ^ 63
+unfolding fileBoxAt skips
+file-small s at {b} e f m =
+    let p = passed 2 skips s at e .1 in
+    let q = required (is ftyp b || is meta b || ltb (sizeOf (b .body)) (2 ^ 63)) 5 p in
+    ltb-true (sizeOf (b .body)) (2 ^ 63) (rw (ne-eqb (b .kind) ftyp f, ne-eqb (b .kind) meta m) at q)

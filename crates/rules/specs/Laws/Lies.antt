@@ -107,7 +107,7 @@ module _ (o : ℕ → Bool) (t : List ℕ → Outcome (Unit {0})) (s : List ℕ)
   unfolding boxes
   boxes-lie at e = run-all (λ b. Lies (length s) (b .body)) (levelStep (inside o t) s) step-lies (length s) at e
 
--- ---- The last `idat`
+-- ---- The last `iloc` and the last `idat`
 
 in-list : (body : List ℕ) (o : Option Box) (d : Span) → ((b : Box) → o ≡ some b → Lies (length body) (b .body)) → bodyIn o ≡ some d → Lies (length body) d
 unfolding bodyIn
@@ -116,23 +116,45 @@ in-list body (some b) d p e =
     let k : d ≡ b .body = cc in
     rw k (p b refl)
 
-idat-lies : (body : List ℕ) (k : Kept) (d : Span) → kept body ≡ fine k → k .idat ≡ some d → Lies (length body) d
-unfolding kept keptIn children metaLevel lastBody
-idat-lies body k d e f =
+last-lies : (body : List ℕ) (kind : ℕ) (d : Span) → fine tt ≡ outcome (children body .end) → lastBody kind (children body .list) ≡ some d → Lies (length body) d
+unfolding children metaLevel lastBody
+last-lies body kind d e f =
+    let bs : List Box = children body .list in
+    let lie = only-all (λ b. Lies (length body) (b .body)) (is kind) bs (boxes-lie (isKind iinf) infoTest body 4 (sym e)) in
+    in-list body (lastOf (only (is kind) bs)) d (λ x q. last-all (λ b. Lies (length body) (b .body)) (only (is kind) bs) lie q) f
+
+-- what is kept was in the list
+record InList (body : List ℕ) (k : Kept) : Type 0 where
+  ended-well : fine tt ≡ outcome (children body .end)
+  iloc-is : lastBody iloc (children body .list) ≡ some (k .iloc)
+  idat-is : k .idat ≡ lastBody idat (children body .list)
+
+there : {A : Type 0} {x : A} (o : Option A) (n : ℕ) → fine x ≡ given o n → o ≡ some x
+there none n e = absurd (apart e)
+there (some y) n e = cc
+
+kept-list : (body : List ℕ) (k : Kept) → kept body ≡ fine k → InList body k
+unfolding kept keptIn
+kept-list body k e =
     let w : Walk Box = children body in
     let (u, a, e₁) = bind-fine (metaTest body) (λ u. keptIn body w) (sym e) in
     let (v, b, e₂) = bind-fine (outcome (w .end)) (λ u. left w) e₁ in
     let (i, c, e₃) = bind-fine (given (wantedItem body (w .list)) 1) (λ i. given (lastBody iloc (w .list)) 16 >>= λ t. fine (all w i t)) e₂ in
     let (t, g, e₄) = bind-fine (given (lastBody iloc (w .list)) 16) (λ t. fine (all w i t)) e₃ in
-    let h : bodyIn (lastOf (only (is idat) (w .list))) ≡ some d = cc in
-    let lie = only-all (λ b. Lies (length body) (b .body)) (is idat) (w .list) (boxes-lie (isKind iinf) infoTest body 4 (sym b)) in
-    in-list body (lastOf (only (is idat) (w .list))) d (λ x q. last-all (λ b. Lies (length body) (b .body)) (only (is idat) (w .list)) lie q) h
+    let z : k ≡ all w i t = cc in
+    rw z (record { ended-well = b; iloc-is = there (lastBody iloc (w .list)) 16 g; idat-is = refl })
   where
     all : Walk Box → Item → Span → Kept
     all w i t = record { wanted = i .id; iloc = t; idat = lastBody idat (w .list) }
 
     left : Walk Box → Outcome Kept
     left w = given (wantedItem body (w .list)) 1 >>= λ i. given (lastBody iloc (w .list)) 16 >>= λ t. fine (all w i t)
+
+pub iloc-lies : (body : List ℕ) (k : Kept) → kept body ≡ fine k → Lies (length body) (k .iloc)
+iloc-lies body k e = let i = kept-list body k e in last-lies body iloc (k .iloc) (i .ended-well) (i .iloc-is)
+
+pub idat-lies : (body : List ℕ) (k : Kept) (d : Span) → kept body ≡ fine k → k .idat ≡ some d → Lies (length body) d
+idat-lies body k d e f = let i = kept-list body k e in last-lies body idat d (i .ended-well) (sym (i .idat-is) ∙ f)
 
 -- ---- The `meta` that is opened
 
@@ -169,7 +191,7 @@ step-order l s at = go (leb (length s) at) (headerAt s at)
     go false none = tt
     go false (some h) = λ v e. omega arith
 
-opened-lies : (img : List ℕ) (m : Box) → opened img ≡ fine m → Lies (length img) (m .body)
+pub opened-lies : (img : List ℕ) (m : Box) → opened img ≡ fine m → Lies (length img) (m .body)
 unfolding opened openedIn top boxes
 opened-lies img m e =
     let n : ℕ = length img in

@@ -1,0 +1,58 @@
+-- By the version, each with its law.
+use borrow.Author.Needs.{needs}
+use Rattle.items.specs.Wanted.{iinf-cut, iinf-zero, iinf-other}
+use Rattle.items.proofs.parse_iinf.Statement.{statement}
+use Rattle.items.proofs.parse_iinf.Tie as tie
+
+fullbox-header-requires : tie.Need-fullbox-header-requires
+fullbox-header-requires c κs = search needs
+
+enum-known-e : tie.Need-enum-known-e
+enum-known-e c = search needs
+
+enum-known-version : tie.Need-enum-known-version
+enum-known-version c = search needs
+
+uint16-requires : tie.Need-uint16-requires
+uint16-requires c κs = search needs
+
+entries-requires : tie.Need-entries-requires
+entries-requires c κs = search needs
+
+uint32-requires : tie.Need-uint32-requires
+uint32-requires c κs = search needs
+
+entries-requires-2 : tie.Need-entries-requires-2
+entries-requires-2 c κs = search needs
+
+returns : tie.Need-returns
+returns c =
+    let v = rw (c .before .e .given .1) at (c .before .before .before .fullbox-header .ensures) in
+    search iinf-cut
+
+returns-2 : tie.Need-returns-2
+returns-2 c =
+    let k = c .before .before .before .before in
+    let v = rw (k .version .given .1) at (k .before .before .fullbox-header .ensures) in
+    search iinf-zero
+
+returns-3 : tie.Need-returns-3
+returns-3 c =
+    let k = c .before .before .before .before in
+    let v = rw (k .version .given .1) at (k .before .before .fullbox-header .ensures) in
+    search iinf-other
+
+pub parse-iinf-spec : {M : Type 1} → statement M
+parse-iinf-spec =
+    tie.close
+    (tie.spec
+    fullbox-header-requires
+    enum-known-e
+    enum-known-version
+    uint16-requires
+    entries-requires
+    uint32-requires
+    entries-requires-2
+    returns
+    returns-2
+    returns-3)
