@@ -95,6 +95,13 @@ refusal-back r.AddressSpace = refl
 refusal-back r.NoRoom = refl
 refusal-back r.ListingTooLong = refl
 
+-- no refusal is numbered 0, as success is
+pub not-done : (x : Refusal) → number x ≡ 0 → ⊥
+unfolding asRefusal refusals
+not-done x e =
+    let f : number r.NotFound ≡ number x = ap number (ap asRefusal (sym e) ∙ refusal-back x) in
+    omega arith
+
 pub refusal-one : {x y : Refusal} → number x ≡ number y → x ≡ y
 refusal-one {x} {y} e = one number asRefusal refusal-back e refl
 

@@ -1,14 +1,20 @@
 -- Laws that the proofs cite, so that they need not open a definition.
 pub mod Rows
 pub mod Numbers
+pub mod Fields
 pub mod Headers
 pub mod Decision
 pub mod Unroll
 pub mod Fold
 pub mod Last
 pub mod Lies
+pub mod Extents
+pub mod Entries
+pub mod Places
+pub mod Totals
+pub mod Over
 pub mod Gather
+pub mod Lent
 pub mod Agreement
 pub mod SameBoxes
 pub mod Refusals
-pub mod Lent

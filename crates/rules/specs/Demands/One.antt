@@ -4,6 +4,7 @@ use mathlib.Core.Path.{_≡_, refl}
 use Prim.Native.Nat.{ℕ, _≤_, _<_}
 use native.Mathlib.Omega.{arith}
 use mathlib.Core.Bool.{Bool, true, false}
+use mathlib.Core.Logic.{_⊎_, inl, inr}
 use mathlib.Core.List.{List, [], _++_, map}
 use lib.ListN.{length, drop, length-map}
 use lib.Dec.{leb}
@@ -12,7 +13,7 @@ use Rattle.rules.specs.Doc.Outcomes.{if_then_else_, Outcome, fine, refus
 use Rattle.rules.specs.Doc.Bytes.{byteAt}
 use Rattle.rules.specs.Doc.Block.{bytesAt, block}
 use Rattle.rules.specs.Doc.Answers.{Answer, handed, answerWith, answer}
-use Rattle.rules.specs.Laws.Refusals.{InTable, Numbered, with-number, block-numbered}
+use Rattle.rules.specs.Laws.Refusals.{Numbered, block-numbered, not-given}
 
 -- there is a block, and it is longer than the buffer
 pub record Longer (img out : List ℕ) : Type 0 where
@@ -27,10 +28,6 @@ pub record Written (img out after : List ℕ) : Type 0 where
   pub room : length positions ≤ length out
   pub front : after ≡ bytesAt img positions ++ drop (length positions) out
 
--- a step before the room doesn't refuse with a number that is not among 1 to 27
-not-given : (n k : ℕ) → Numbered {A = List ℕ} (refused n) → n ≡ k → (InTable k → ⊥) → ⊥
-not-given n k (with-number p) e out = out (rw e at p)
-
 module _ (img out : List ℕ) where
   -- the answer that an outcome of step 10 leads to
   unfoldable answerBy : Outcome (List ℕ) → Answer
@@ -39,6 +36,23 @@ module _ (img out : List ℕ) where
   answer-by : (o : Outcome (List ℕ)) → block img ≡ o → answer img out ≡ answerBy o
   unfolding answer answerBy
   answer-by o e = rw e
+
+  -- the block's length is said, whether or not there is room; a refusal before the room carries none
+  pub length-said : {ps : List ℕ} → block img ≡ fine ps → answer img out .length ≡ length ps
+  unfolding answerBy answerWith
+  length-said {ps} e = rw (answer-by (fine ps) e)
+
+  pub refusal-said : {n : ℕ} → block img ≡ refused n → answer img out .number ≡ n
+  unfolding answerBy answerWith
+  refusal-said {n} e = rw (answer-by (refused n) e)
+
+  pub block-said : {ps : List ℕ} → block img ≡ fine ps → (answer img out .number ≡ 0) ⊎ (answer img out .number ≡ 28)
+  unfolding answerBy answerWith
+  block-said {ps} e = rw (answer-by (fine ps) e) (go (leb (length ps) (length out)))
+    where
+      go : (t : Bool) → (_≡_ {A = ℕ} (if t then 0 else 28) 0) ⊎ (_≡_ {A = ℕ} (if t then 0 else 28) 28)
+      go true = inl refl
+      go false = inr refl
 
   longer-by : (o : Outcome (List ℕ)) → block img ≡ o → Numbered o → answerBy o .number ≡ 28 → Longer img out
   unfolding answerBy answerWith
@@ -56,6 +70,12 @@ module _ (img out : List ℕ) where
   pub room-then : Longer img out → answer img out .number ≡ 28
   unfolding answerBy answerWith
   room-then l = rw (answer-by (fine (l .positions)) (l .is-block), lt-leb (length (l .positions)) (length out) (l .longer))
+
+  -- 28 carries the length that is needed, which is not 0
+  pub room-length : answer img out .number ≡ 28 → 0 < answer img out .length
+  room-length h =
+      let l = room-only-then h in
+      omega (arith, length-said (l .is-block), l .longer)
 
   -- what is put in front of the output: the block, if there is room
   unfoldable front : List ℕ → Bool → List ℕ

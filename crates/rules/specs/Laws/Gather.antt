@@ -94,7 +94,7 @@ onFine f (refused n) = refused n
 
 -- ---- An extent that is not refused ends inside
 
-lies-inside : (method n base : ℕ) (x : Extent) (p : Span) → lies method n base x ≡ fine p → p .to ≤ n
+pub lies-inside : (method n base : ℕ) (x : Extent) (p : Span) → lies method n base x ≡ fine p → p .to ≤ n
 unfolding lies inImage inIdat
 lies-inside method n base x p e =
     let (u, a, f) = bind-fine (require (ltb (base + x .offset) (2 ^ 64)) 18) _ (sym e) in

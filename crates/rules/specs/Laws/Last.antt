@@ -46,6 +46,27 @@ module _ {A B : Type 0} (p : A → Bool) (r : A → B) where
       go true = sym (or-mapped (lastOf (only p xs)) x d) ∙ ap (λ (o : Option A). orElse (mapped r o) d) (sym (last-cons x (only p xs)))
       go false = refl
 
+or-none : {A : Type 0} (o : Option A) → orElse o none ≡ o
+or-none none = refl
+or-none (some x) = refl
+
+-- from nothing, it is the last of the list
+pub kept-last : {A B : Type 0} (p : A → Bool) (r : A → B) (xs : List A) → folded (keep p r) none xs ≡ mapped r (lastOf (only p xs))
+kept-last p r xs = keep-last p r none xs ∙ or-none (mapped r (lastOf (only p xs)))
+
+-- the same, as the first of two that is there
+pub keep-or : {A : Type 0} (p : A → Bool) (o : Option A) (x : A) → orElse (if p x then some x else none) o ≡ keep p (λ x. x) o x
+unfolding keep
+keep-or p o x = go (p x)
+  where
+    go : (t : Bool) → orElse (if t then some x else none) o ≡ (if t then some x else o)
+    go true = refl
+    go false = refl
+
+pub mapped-same : {A : Type 0} (o : Option A) → mapped (λ x. x) o ≡ o
+mapped-same none = refl
+mapped-same (some x) = refl
+
 folded-append : {S A : Type 0} (f : S → A → S) (st : S) (xs ys : List A) → folded f st (xs ++ ys) ≡ folded f (folded f st xs) ys
 unfolding folded
 folded-append f st [] ys = refl

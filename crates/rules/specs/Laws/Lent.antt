@@ -15,7 +15,7 @@ use Rattle.rules.specs.Doc.Meta.{opened}
 use Rattle.rules.specs.Doc.Children.{Kept, kept}
 use Rattle.rules.specs.Doc.Iloc.{extents, Chosen, chosen}
 use Rattle.rules.specs.Doc.Join.{Plan, moved, movedOption, planOf, plan, sourceOf, lies}
-use Rattle.rules.specs.Doc.Answers.{Answer, answer}
+use Rattle.rules.specs.Doc.Answers.{answer}
 use Rattle.rules.specs.Laws.Agreement.{part-at}
 use Rattle.rules.specs.Laws.Gather.{blockFrom, blockBytes, named, chosenBlock, itemBlock, answerOf, answer-gathered}
 use Rattle.rules.specs.Laws.Lies.{Lies, part-size, opened-lies, idat-lies}

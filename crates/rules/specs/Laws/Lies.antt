@@ -25,7 +25,7 @@ use Rattle.rules.specs.Laws.Rows.{apart, bind-fine}
 
 -- ---- Boxes of a walk
 
-not-there : {A : Type 0} {x : A} → none ≡ some x → ⊥
+pub not-there : {A : Type 0} {x : A} → none ≡ some x → ⊥
 not-there e = let z : _≡_ {A = ℕ} 0 1 = cc in omega arith
 
 -- a body that lies in n bytes

@@ -1,10 +1,13 @@
 -- Every step before the room refuses with a number from 1 to 27.
-use Prim.Native.Nat.{ℕ, zero, suc, _+_, _-_, _/_, _%_, _^_}
+use mathlib.Core.Path.{_≡_, refl}
+use Prim.Native.Nat.{ℕ, zero, suc, _+_, _-_, _/_, _%_, _^_, _<_}
+use native.Mathlib.Omega.{arith}
 use mathlib.Core.Bool.{Bool, true, false, _&&_, _||_}
 use mathlib.Core.Option.{Option, none, some}
 use mathlib.Core.List.{List, [], _∷_}
 use lib.ListN.{length}
 use lib.Dec.{T, leb, ltb, eqb}
+use borrow.Author.Tests.{leb-false}
 use Rattle.rules.specs.Doc.Outcomes.{if_then_else_, Outcome, fine, refused, _>>=_, require, given}
 use Rattle.rules.specs.Doc.Lists.{any, only, lastOf}
 use Rattle.rules.specs.Doc.Bytes.{Span, sizeOf, bytesIn, field, sized, version}
@@ -18,6 +21,8 @@ use Rattle.rules.specs.Doc.Iinf.{itemIdSize, item, itemTest, countSize, 
 use Rattle.rules.specs.Doc.Iloc.{Sizes, Table, idSize, tableOf, inFile, Entry, entryAt, Extent, extentAt, extentMet, extents, isWanted, entryEnd, extentsTest, entryNext, entryMet, entries, chosenIn, chosen}
 use Rattle.rules.specs.Doc.Join.{planOf, plan, sourceOf, reach, inImage, inIdat, lies, counted, placed, join, joinedIn, joinedBy, joinedFrom, joined}
 use Rattle.rules.specs.Doc.Block.{blockAfter, blockIn, block}
+use Rattle.rules.specs.Doc.Answers.{answerWith}
+use Rattle.rules.specs.Laws.Gather.{added, totalFrom, blockOf, blockFrom, named, chosenBlock, itemBlock, answerOf}
 
 abbrev pub InTable : ℕ → Type 0
 InTable n = T (leb 1 n && leb n 27)
@@ -253,10 +258,14 @@ chosen-numbered body wanted =
 
 -- ---- Steps 9 and 10
 
+by-method : {A : Type 0} (x : A) (store : Option A) (method : ℕ)
+    → Numbered (if eqb method 0 then fine x else if eqb method 1 then given store 21 else if eqb method 2 then refused 22 else refused 23)
+by-method x store method =
+    either (eqb method 0) _ _ went (either (eqb method 1) _ _ (given-numbered store 21 tt) (either (eqb method 2) _ _ (with-number tt) (with-number tt)))
+
 source-numbered : (n : ℕ) (store : Option Span) (method : ℕ) → Numbered (sourceOf n store method)
 unfolding sourceOf
-source-numbered n store method =
-    either (eqb method 0) _ _ went (either (eqb method 1) _ _ (given-numbered store 21 tt) (either (eqb method 2) _ _ (with-number tt) (with-number tt)))
+source-numbered n store method = by-method _ store method
 
 lies-numbered : (method n base : ℕ) (x : Extent) → Numbered (lies method n base x)
 unfolding lies inImage inIdat
@@ -301,3 +310,41 @@ after-offset-numbered offset ps = row _ _ (require-numbered (leb 4 (length ps)) 
 pub block-numbered : (img : List ℕ) → Numbered (block img)
 unfolding block blockIn
 block-numbered img = row _ _ (joined-numbered img) (λ ps. after-offset-numbered _ ps)
+
+-- ---- Steps 7 to 10 over bytes
+
+added-numbered : (total : ℕ) (o : Outcome Span) → Numbered o → Numbered (added total o)
+unfolding added
+added-numbered total (fine p) q = either (ltb 65535 (total + sizeOf p)) _ _ (with-number tt) went
+added-numbered total (refused n) (with-number p) = with-number p
+
+total-numbered : (place : Extent → Outcome Span) → ((x : Extent) → Numbered (place x)) → (total : ℕ) (xs : List Extent) → Numbered (totalFrom place total xs)
+unfolding totalFrom
+total-numbered place p total [] = went
+total-numbered place p total (x ∷ xs) = row _ _ (added-numbered total (place x) (p x)) (λ t. total-numbered place p t xs)
+
+named-numbered : (img : List ℕ) (store : Option (List ℕ)) (method : ℕ) → Numbered (named img store method)
+unfolding named
+named-numbered img store method = by-method img store method
+
+pub item-block-numbered : (img : List ℕ) (store : Option (List ℕ)) (table : List ℕ) (wanted : ℕ) → Numbered (itemBlock img store table wanted)
+unfolding itemBlock chosenBlock blockFrom blockOf
+item-block-numbered img store table wanted =
+    row _ _ (chosen-numbered table wanted) (λ c. row _ _ (named-numbered img store (c .entry .method))
+    (λ s. row _ _ (total-numbered _ (lies-numbered (c .entry .method) (length s) (c .entry .base)) 0 _) (λ t. after-offset-numbered _ _)))
+
+-- ---- What that shows
+
+-- a number that is not among 1 to 27 is not given
+pub not-given : (n k : ℕ) → Numbered {A = List ℕ} (refused n) → n ≡ k → (InTable k → ⊥) → ⊥
+not-given n k (with-number p) e out = out (rw e at p)
+
+-- 28 carries a length
+pub room-length : (out : List ℕ) (b : Outcome (List ℕ)) → Numbered b → answerOf out b .number ≡ 28 → 0 < answerOf out b .length
+unfolding answerOf answerWith
+room-length out (refused n) p e = absurd (not-given n 28 p e (λ t. t))
+room-length out (fine bytes) p e = go (leb (length bytes) (length out)) refl e
+  where
+    go : (t : Bool) → leb (length bytes) (length out) ≡ t → _≡_ {A = ℕ} (if t then 0 else 28) 28 → 0 < length bytes
+    go true f e = absurd (omega arith)
+    go false f e = omega (arith, leb-false (length bytes) (length out) f)

@@ -1,0 +1,4 @@
+pub mod Told
+pub mod Rows
+pub mod Located
+pub mod Unique
