@@ -1,0 +1,5 @@
+pub mod Told
+pub mod Extents
+pub mod Answers
+pub mod Methods
+pub mod Unique

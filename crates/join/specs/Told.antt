@@ -1,0 +1,63 @@
+-- What the answers say: document 01's number, or the values, of each case; and what the code's values stand for.
+use mathlib.Core.Path.{_≡_}
+use Prim.Native.Nat.{ℕ, _≤_}
+use mathlib.Core.List.{List}
+use lib.ListN.{length}
+use lib.Dec.{eqb}
+use Rattle.rules.specs.Doc.Outcomes.{if_then_else_, Outcome, fine, refused}
+use Rattle.rules.specs.Doc.Bytes.{Span}
+use Rattle.rules.specs.Doc.Iloc.{Extent}
+use Rattle.rules.specs.Doc.Join.{lies}
+use Rattle.rules.specs.Doc.Answers.{Answer}
+use Rattle.rules.specs.Laws.Gather.{gathered, blockFrom}
+use Rattle.boxes.specs.Told.{number}
+use Rattle.locations.specs.Told.{locationIn, extentsOf}
+use Rattle.locations.specs.declared.Location.{Location}
+use Rattle.join.specs.declared.place.Place.{Place}
+use Rattle.join.specs.declared.place.Place.the-variants as p
+use Rattle.join.specs.declared.total.Total.{Total}
+use Rattle.join.specs.declared.total.Total.the-variants as t
+use Rattle.join.specs.declared.block.Extracted.{Extracted}
+use Rattle.join.specs.declared.block.Extracted.the-variants as e
+
+-- of where an extent lies
+abbrev pub placeOf : Place → Outcome Span
+placeOf (p.Part from to) = fine (record { from = from; to = to })
+placeOf (p.Refused e) = refused (number e)
+
+-- of the total
+abbrev pub totalOf : Total → Outcome ℕ
+totalOf (t.Sum n) = fine n
+totalOf (t.Refused e) = refused (number e)
+
+-- of extraction, with the output after it
+abbrev pub told : Extracted → List ℕ → Answer
+told (e.Done n) out = record { number = 0; length = n; output = out }
+told (e.NoRoom n) out = record { number = 28; length = n; output = out }
+told (e.Refused r) out = record { number = number r; length = 0; output = out }
+
+-- ---- Of a location whose method is 0 or 1
+
+-- of the image and the `idat` body, the one that the method names
+abbrev pub source : ℕ → List ℕ → List ℕ → List ℕ
+source method image idat = if eqb method 0 then image else idat
+
+-- how its extents lie in n bytes
+abbrev pub liesBy : Location → ℕ → Extent → Outcome Span
+liesBy l n = lies (locationIn l .entry .method) n (locationIn l .entry .base)
+
+-- its joined bytes
+abbrev pub joinedOf : List ℕ → List ℕ → List ℕ → Location → List ℕ
+joinedOf image idat iloc l =
+    let s = source (locationIn l .entry .method) image idat in
+    gathered (liesBy l (length s)) s (extentsOf iloc l)
+
+-- its block
+abbrev pub blockBy : List ℕ → List ℕ → List ℕ → Location → Outcome (List ℕ)
+blockBy image idat iloc l =
+    let s = source (locationIn l .entry .method) image idat in
+    blockFrom (liesBy l (length s)) s (extentsOf iloc l)
+
+-- an extent that is not refused ends inside n bytes
+abbrev pub Ends : Outcome Span → ℕ → Type 0
+Ends o n = (p : Span) → o ≡ fine p → p .to ≤ n
