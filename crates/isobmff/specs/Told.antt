@@ -1,0 +1,65 @@
+-- What the answers say: document 01's number, or the values, of each case.
+use Prim.Native.Nat.{ℕ}
+use mathlib.Core.Bool.{Bool}
+use mathlib.Core.Option.{Option, none, some}
+use Rattle.rules.specs.Doc.Outcomes.{Outcome, fine, refused}
+use Rattle.rules.specs.Doc.Bytes.{Span}
+use Rattle.rules.specs.Doc.Children as doc
+use Rattle.boxes.specs.Told.{number}
+use Rattle.items.specs.Told.{idOf}
+use Rattle.isobmff.specs.declared.top.Body.{Body}
+use Rattle.isobmff.specs.declared.top.Body.the-variants as b
+use Rattle.isobmff.specs.declared.top.Next.{Next}
+use Rattle.isobmff.specs.declared.top.Next.the-variants as n
+use Rattle.isobmff.specs.declared.top.Top.{Top}
+use Rattle.isobmff.specs.declared.top.Top.the-variants as t
+use Rattle.isobmff.specs.declared.meta.Last.{Last}
+use Rattle.isobmff.specs.declared.meta.Last.the-variants as l
+use Rattle.isobmff.specs.declared.meta.Seen.{Seen}
+use Rattle.isobmff.specs.declared.meta.Met.{Met}
+use Rattle.isobmff.specs.declared.meta.Met.the-variants as m
+use Rattle.isobmff.specs.declared.meta.Kept.{Kept}
+use Rattle.isobmff.specs.declared.meta.Kept.the-variants as k
+
+-- ---- The top level
+
+-- what a box leads to: on, with whether an `ftyp` was met, or to the body of `meta`
+pub data Lead : Type 0 where
+  on : Bool → ℕ → Lead
+  found : Span → Lead
+
+abbrev pub bodyOf : Body → Outcome ℕ
+bodyOf (b.To to) = fine to
+bodyOf (b.Refused e) = refused (number e)
+
+abbrev pub nextOf : Next → Outcome Lead
+nextOf (n.On checked at) = fine (on checked at)
+nextOf (n.Meta from to) = fine (found (record { from = from; to = to }))
+nextOf (n.Refused e) = refused (number e)
+
+abbrev pub topOf : Top → Outcome Span
+topOf (t.Meta from to) = fine (record { from = from; to = to })
+topOf (t.Refused e) = refused (number e)
+
+-- ---- The children of `meta`
+
+-- what the children so far leave
+pub record State : Type 0 where
+  pub wanted : Option ℕ
+  pub iloc : Option Span
+  pub idat : Option Span
+
+abbrev pub lastOf : Last → Option Span
+lastOf l.Unset = none
+lastOf (l.At from to) = some (record { from = from; to = to })
+
+abbrev pub seenOf : Seen → State
+seenOf s = record { wanted = idOf (s .«item_id»); iloc = lastOf (s .iloc); idat = lastOf (s .idat) }
+
+abbrev pub metOf : Met → Outcome State
+metOf (m.Read s) = fine (seenOf s)
+metOf (m.Refused e) = refused (number e)
+
+abbrev pub keptOf : Kept → Outcome doc.Kept
+keptOf (k.Found id from to idat) = fine (record { wanted = id; iloc = record { from = from; to = to }; idat = lastOf idat })
+keptOf (k.Refused e) = refused (number e)

@@ -1,0 +1,61 @@
+// The Exif block of a HEIF image.
+ghost use mathlib.Core.Path.{_≡_};
+ghost use Rattle.rules.specs.Doc.Answers.{answer};
+ghost use Rattle.rules.specs.Laws.Gather.{answerOf};
+ghost use Rattle.rules.specs.Laws.Lent.{metaBlock};
+ghost use Rattle.join.specs.Told.{told};
+
+mod meta;
+mod top;
+
+use join::Extracted;
+use meta::Kept;
+use meta::Last;
+use meta::parse_meta;
+use top::Top;
+use top::parse;
+
+// Steps 2 to 10, with the body of the first `meta`.
+fn from_meta<'a>(image: &'a [u8], body: &'a [u8], out: &mut [u8]) -> Extracted
+    ensures { λ r. ⌜ told r (now (out .exit)) ≡ answerOf (now (out .entry)) (metaBlock (now (image .entry)) (now (body .entry))) ⌝ }
+{
+    match parse_meta(body) {
+        Kept::Refused(e) => Extracted::Refused(e),
+        Kept::Found {
+            item_id,
+            from,
+            to,
+            idat,
+        } => match idat {
+            Last::Unset => join::extract_item(
+                image,
+                &body[0..0],
+                false,
+                &body[from..to],
+                item_id,
+                out,
+            ),
+            Last::At {
+                from: start,
+                to: end,
+            } => join::extract_item(
+                image,
+                &body[start..end],
+                true,
+                &body[from..to],
+                item_id,
+                out,
+            ),
+        },
+    }
+}
+
+// The Exif block of `image` goes to the front of `out`. On any refusal `out` is untouched.
+pub fn get_exif_attr(image: &[u8], out: &mut [u8]) -> Extracted
+    ensures { λ r. ⌜ told r (now (out .exit)) ≡ answer (now (image .entry)) (now (out .entry)) ⌝ }
+{
+    match parse(image) {
+        Top::Refused(e) => Extracted::Refused(e),
+        Top::Meta { from, to } => from_meta(image, &image[from..to], out),
+    }
+}
