@@ -1,0 +1,93 @@
+// Answers a run of cases, one line each. A case on standard input is the image's length and the output's length, four bytes each, big-endian,
+// then the image. The output holds a5 everywhere before the call, so that the line shows what was written and what was left alone.
+mod line;
+
+ghost use Prim.Native.Nat.{_≤_};
+ghost use lib.ListN.{length};
+use libc::STDIN_FILENO;
+use libc::STDOUT_FILENO;
+
+const MOST_IMAGE: usize = 1048576;
+
+const MOST_OUT: usize = 131072;
+
+// Two digits for each byte of the output, and the words around them.
+const MOST_LINE: usize = 262208;
+
+fn fill(out: &mut [u8]) {
+    let mut i: usize = 0;
+    while i < out.len() {
+        out[i] = 0xa5;
+        i += 1;
+    }
+}
+
+fn show(text: &[u8], n: usize) -> bool
+    requires { ⌜ n ≤ length (now text) ⌝ }
+{
+    io::write_all(STDOUT_FILENO, &text[..n])
+}
+
+// Whether to go on: the line of the case was written.
+fn answer(image: &[u8], out: &mut [u8], text: &mut [u8]) -> bool {
+    fill(out);
+    let answered = isobmff::get_exif_attr(image, out);
+    let n = line::of_answer(answered, brands::is_heif(image), out, text);
+    show(text, n)
+}
+
+// Ends the run with a line that says why.
+fn stop(case: u64, why: &[u8], text: &mut [u8]) -> bool {
+    let n = line::of_end(case, why, text);
+    show(text, n);
+    false
+}
+
+// Reads an image that fills the slice, and answers it.
+fn whole(case: u64, image: &mut [u8], out: &mut [u8], text: &mut [u8]) -> bool {
+    if io::read_full(STDIN_FILENO, image) < image.len() {
+        return stop(case, b" cut\n", text);
+    }
+    answer(image, out, text)
+}
+
+// Reads one case and answers it, and says whether to go on.
+fn one(case: u64, image: &mut [u8], out: &mut [u8], text: &mut [u8]) -> bool {
+    let mut head = [0u8; 8];
+    let got = io::read_full(STDIN_FILENO, &mut head);
+    if got == 0 {
+        return false;
+    }
+    if got < 8 {
+        return stop(case, b" cut\n", text);
+    }
+    let n = endian::loadu32(&head, 0) as usize;
+    let m = endian::loadu32(&head, 4) as usize;
+    if image.len() < n {
+        return stop(case, b" too long\n", text);
+    }
+    if out.len() < m {
+        return stop(case, b" too long\n", text);
+    }
+    whole(case, &mut image[..n], &mut out[..m], text)
+}
+
+// A proved loop has to end, and nothing says that standard input does. So the loop counts the cases, up to a number that no run reaches.
+fn run(image: &mut [u8], out: &mut [u8], text: &mut [u8]) {
+    let mut case: u64 = 1;
+    while case < u64::MAX && one(case, image, out, text) {
+        case += 1;
+    }
+}
+
+// Lends the arrays as slices: they live on the stack of `main`, once.
+fn lend(image: &mut [u8; MOST_IMAGE], out: &mut [u8; MOST_OUT], text: &mut [u8; MOST_LINE]) {
+    run(image, out, text);
+}
+
+fn main() {
+    let mut image = [0u8; MOST_IMAGE];
+    let mut out = [0u8; MOST_OUT];
+    let mut text = [0u8; MOST_LINE];
+    lend(&mut image, &mut out, &mut text);
+}
