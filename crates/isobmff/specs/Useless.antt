@@ -48,6 +48,19 @@ two-answer : answer twoExtents fresh ≡ record { number = 0; length = 4; output
 unfolding document twoExtents line fresh
 two-answer = refl
 
+-- H with `iloc` before `iinf`
+unfoldable pub ilocFirst : List ℕ
+ilocFirst = line 20 0x00000014_66747970_6d696631_00000000_6d696631
+    ++ line 12 0x00000060_6d657461_00000000
+    ++ line 32 0x00000020_696c6f63_01000000_4400_0001_0001_0001_0000_0001_00000000_00000000
+    ++ line 14 0x00000023_69696e66_00000000_0001
+    ++ line 21 0x00000015_696e6665_02000000_0001_0000_45786966_00
+    ++ line 17 0x00000011_69646174_00000001_aa_4d4d002a
+
+first-answer : answer ilocFirst fresh ≡ record { number = 0; length = 4; output = line 5 0x4d4d002a_09 }
+unfolding document ilocFirst line fresh
+first-answer = refl
+
 -- ---- The useless versions
 
 module _ (f : Version) (meets : Meets f) where
@@ -95,3 +108,9 @@ module _ (f : Version) (meets : Meets f) where
 
   pub needed-of-h : f H (take 3 fresh) .0 ≡ NoRoom 4
   needed-of-h = attr-one H (take 3 fresh) (f H (take 3 fresh) .0) (NoRoom 4) (f H (take 3 fresh) .1) (take 3 fresh) (meets H (take 3 fresh)) (sym h-short) .0
+
+  -- A slip: `iloc` read when met, before the wanted id is known, would find no entry (17).
+  pub not-reading-iloc-when-met : saidNumber ilocFirst fresh ≡ 17 → ⊥
+  not-reading-iloc-when-met h =
+      let e = number-of ilocFirst fresh _ first-answer in
+      omega arith
