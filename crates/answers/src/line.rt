@@ -94,7 +94,7 @@ fn put_heif(heif: bool, text: &mut [u8], at: usize) -> usize
     put(b" heif=0 out=", text, at)
 }
 
-pub fn of_answer(answer: Extracted, heif: bool, out: &[u8], text: &mut [u8]) -> usize
+pub(crate) fn of_answer(answer: Extracted, heif: bool, out: &[u8], text: &mut [u8]) -> usize
     ensures { λ r. ⌜ r ≤ length (now (text .exit)) ⌝ }
 {
     let at = put_answer(answer, text);
@@ -103,7 +103,7 @@ pub fn of_answer(answer: Extracted, heif: bool, out: &[u8], text: &mut [u8]) -> 
     put(b"\n", text, at)
 }
 
-pub fn of_end(case: u64, why: &[u8], text: &mut [u8]) -> usize
+pub(crate) fn of_end(case: u64, why: &[u8], text: &mut [u8]) -> usize
     ensures { λ r. ⌜ r ≤ length (now (text .exit)) ⌝ }
 {
     let at = put(b"case=", text, 0);

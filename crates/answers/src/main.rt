@@ -63,10 +63,7 @@ fn one(case: u64, image: &mut [u8], out: &mut [u8], text: &mut [u8]) -> bool {
     }
     let n = endian::loadu32(&head, 0) as usize;
     let m = endian::loadu32(&head, 4) as usize;
-    if image.len() < n {
-        return stop(case, b" too long\n", text);
-    }
-    if out.len() < m {
+    if image.len() < n || out.len() < m {
         return stop(case, b" too long\n", text);
     }
     whole(case, &mut image[..n], &mut out[..m], text)

@@ -7,8 +7,7 @@ use Prim.Native.Nat.{ℕ, _-_, _≤_, _<_}
 use lib.ListN.{length}
 use borrow.Author.Tests.{ne-eqb}
 use Rattle.rules.specs.Doc.Outcomes.{if_then_else_, Outcome, fine, refused, _>>=_, given}
-use Rattle.rules.specs.Doc.Lists.{only}
-use Rattle.rules.specs.Doc.Lists as lists
+use Rattle.rules.specs.Doc.Lists.{only, lastOf}
 use Rattle.rules.specs.Doc.Bytes.{part, Span, bytesIn, version}
 use Rattle.rules.specs.Doc.Walks.{Walk, outcome}
 use Rattle.rules.specs.Doc.Headers.{iinf, iloc, idat, Box, boxOf, isKind, is, childAt}
@@ -16,6 +15,7 @@ use Rattle.rules.specs.Doc.Levels.{tested, boxes, inside}
 use Rattle.rules.specs.Doc.Meta.{metaTest}
 use Rattle.rules.specs.Doc.Children.{metaLevel, children, bodyIn, lastBody, allItems, wantedItem, Kept, keptIn, kept}
 use Rattle.rules.specs.Doc.Iinf.{Item, isExif, infoTest, items}
+use Rattle.rules.specs.Laws.Rows.{bind-assoc}
 use Rattle.rules.specs.Laws.Numbers.{bytes-in}
 use Rattle.rules.specs.Laws.Headers.{child-inside}
 use Rattle.rules.specs.Laws.Fold.{folded, leaves, readNext, children-next, children-done}
@@ -78,13 +78,9 @@ module _ (body : List ℕ) where
       make : Option ℕ → State
       make w = record { wanted = w; iloc = keep (is iloc) (λ b. b .body) (st .iloc) b; idat = keep (is idat) (λ b. b .body) (st .idat) b }
 
-      row : (o : Outcome (Unit {0})) (w : Option ℕ) → ((o >>= λ u. fine w) >>= λ w. fine (make w)) ≡ (o >>= λ u. fine (make w))
-      row (fine u) w = refl
-      row (refused n) w = refl
-
       go : (t : Bool) → ((if t then iinfOver (bytesIn body (b .body)) (st .wanted) else fine (st .wanted)) >>= λ w. fine (make w))
           ≡ ((if t then infoTest (bytesIn body (b .body)) else fine tt) >>= λ u. fine (make (if t then folded wants (st .wanted) (items (bytesIn body (b .body))) else st .wanted)))
-      go true = rw (iinf-folded s (st .wanted)) (row (infoTest s) (folded wants (st .wanted) (items s)))
+      go true = rw (iinf-folded s (st .wanted)) (bind-assoc (infoTest s) (λ u. fine (folded wants (st .wanted) (items s))) (λ w. fine (make w)))
       go false = refl
 
 -- in the loop: `r` is what all children leave, and those from `at` on decide it
@@ -127,13 +123,14 @@ folded-parts body st (b ∷ bs) = folded-parts body (sees body st b) bs
 -- from nothing, each is the last of the list
 last-body : (k : ℕ) (bs : List Box) → folded (keep (is k) (λ b. b .body)) none bs ≡ lastBody k bs
 unfolding lastBody bodyIn
-last-body k bs = kept-last (is k) (λ b. b .body) bs ∙ go (lists.lastOf (only (is k) bs))
+last-body k bs = kept-last (is k) (λ b. b .body) bs ∙ go (lastOf (only (is k) bs))
   where
     go : (o : Option Box) → mapped (λ b. b .body) o ≡ bodyIn o
     go none = refl
     go (some b) = refl
 
-last-item : (body : List ℕ) (bs : List Box) → folded (feed wants (is iinf) (λ b. items (bytesIn body (b .body)))) none bs ≡ mapped (λ i. i .id) (wantedItem body bs)
+last-item : (body : List ℕ) (bs : List Box)
+    → folded (feed wants (is iinf) (λ b. items (bytesIn body (b .body)))) none bs ≡ mapped (λ i. i .id) (wantedItem body bs)
 unfolding wantedItem allItems wants
 last-item body bs =
     feed-each wants (is iinf) (λ b. items (bytesIn body (b .body))) none bs ∙ kept-last isExif (λ i. i .id) (allItems body bs)

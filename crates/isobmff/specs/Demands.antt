@@ -9,7 +9,7 @@ use Rattle.rules.specs.Doc.Outcomes.{Outcome, fine, refused}
 use Rattle.rules.specs.Doc.Block.{block}
 use Rattle.rules.specs.Doc.Answers.{Answer, answer}
 use Rattle.rules.specs.Doc.Consulted.{consulted, Agree}
-use Rattle.rules.specs.Demands.One.{Longer, Written, length-said, refusal-said, block-said, room-only-then, room-then, room-length, refusal-keeps, success-writes}
+use Rattle.rules.specs.Demands.One.{Longer, Written, length-said, refusal-said, block-said, room-only-then, room-then, needs-length, refusal-keeps, success-writes}
 use Rattle.rules.specs.Demands.Three.{quiet}
 use Rattle.boxes.specs.Told.{number}
 use Rattle.boxes.specs.Unique.{not-done}
@@ -50,7 +50,7 @@ module _ (img out after : List ℕ) where
       room : answer img out .number ≡ 28 → ⊥
       room h =
           let z : 0 ≡ answer img out .length = ap (λ (a : Answer). a .length) meets in
-          omega (arith, room-length img out h)
+          omega (arith, needs-length img out h)
 
   -- Every image, with an output buffer of every length, gets an answer: the block's length, or one refusal by number.
   pub gets-answer : (r : Extracted) → told r after ≡ answer img out → Says img r

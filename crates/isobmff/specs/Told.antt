@@ -49,17 +49,17 @@ pub record State : Type 0 where
   pub iloc : Option Span
   pub idat : Option Span
 
-abbrev pub lastOf : Last → Option Span
-lastOf l.Unset = none
-lastOf (l.At from to) = some (record { from = from; to = to })
+abbrev pub spanOf : Last → Option Span
+spanOf l.Unset = none
+spanOf (l.At from to) = some (record { from = from; to = to })
 
 abbrev pub seenOf : Seen → State
-seenOf s = record { wanted = idOf (s .«item_id»); iloc = lastOf (s .iloc); idat = lastOf (s .idat) }
+seenOf s = record { wanted = idOf (s .«item_id»); iloc = spanOf (s .iloc); idat = spanOf (s .idat) }
 
 abbrev pub metOf : Met → Outcome State
 metOf (m.Read s) = fine (seenOf s)
 metOf (m.Refused e) = refused (number e)
 
 abbrev pub keptOf : Kept → Outcome doc.Kept
-keptOf (k.Found id from to idat) = fine (record { wanted = id; iloc = record { from = from; to = to }; idat = lastOf idat })
+keptOf (k.Found id from to idat) = fine (record { wanted = id; iloc = record { from = from; to = to }; idat = spanOf idat })
 keptOf (k.Refused e) = refused (number e)

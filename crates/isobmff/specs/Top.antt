@@ -1,6 +1,6 @@
 -- The boxes of a file, one after another, up to the first `meta`: what the loop follows.
-use mathlib.Core.Path.{_≡_, refl, sym, ap, _∙_, subst}
-use mathlib.Core.Bool.{Bool, true, false, not, _||_}
+use mathlib.Core.Path.{_≡_, refl, sym, ap, _∙_}
+use mathlib.Core.Bool.{Bool, true, false, or-true, or-false, or-assoc, _||_}
 use mathlib.Core.List.{List, [], _∷_}
 use Prim.Native.Nat.{ℕ, _+_, _-_, _^_, _≤_, _<_}
 use native.Mathlib.Omega.{arith}
@@ -14,7 +14,7 @@ use Rattle.rules.specs.Doc.Headers.{ftyp, meta, Box, boxOf, is, whole, fileBoxA
 use Rattle.rules.specs.Doc.Levels.{tested, boxes}
 use Rattle.rules.specs.Doc.Ftyp.{brandTest, topLevel, top, stopped}
 use Rattle.rules.specs.Doc.Meta.{openedIn, opened}
-use Rattle.rules.specs.Laws.Rows.{bind-fine}
+use Rattle.rules.specs.Laws.Rows.{bind-fine, bind-assoc}
 use Rattle.rules.specs.Laws.Numbers.{bytes-in}
 use Rattle.rules.specs.Laws.Headers.{whole-fits, file-begins}
 use Rattle.rules.specs.Laws.Fold.{folded, ending, closed, onwards, level-next, level-done, top-box}
@@ -113,21 +113,10 @@ abbrev pub afterLead : List ℕ → Lead → Outcome Span
 afterLead s (on q at) = openedFrom s q at
 afterLead s (found p) = fine p
 
-or-false : (q : Bool) → (q || false) ≡ q
-or-false true = refl
-or-false false = refl
-
-or-true : (q : Bool) → (q || true) ≡ true
-or-true true = refl
-or-true false = refl
-
-or-assoc : (p q r : Bool) → ((p || q) || r) ≡ (p || (q || r))
-or-assoc true q r = refl
-or-assoc false q r = refl
-
 module _ (s : List ℕ) where
   -- the end of a body, if it is whole
-  whole-to : (b : Box) → b .body .from ≤ b .body .to → wholeTo (length s) (b .body .from) (sizeOf (b .body)) ≡ (whole 2 (length s) b >>= λ u. fine (b .body .to))
+  whole-to : (b : Box) → b .body .from ≤ b .body .to
+      → wholeTo (length s) (b .body .from) (sizeOf (b .body)) ≡ (whole 2 (length s) b >>= λ u. fine (b .body .to))
   unfolding wholeTo whole
   whole-to b h =
       let z : b .body .from + sizeOf (b .body) ≡ b .body .to = omega arith in
@@ -137,11 +126,9 @@ module _ (s : List ℕ) where
       → (fit >>= λ u. brandTest (bytesIn s (b .body)) >>= λ v. openedFrom s true (b .body .to))
       ≡ (((fit >>= λ u. fine (b .body .to)) >>= λ to. brandTest (part s (b .body .from) (to - b .body .from)) >>= λ v. fine (on true to)) >>= afterLead s)
   ftyp-next b (refused n) e = refl
-  ftyp-next b (fine u) e = rw (bytes-in s (b .body) (whole-fits 2 (length s) b (sym e))) (go (brandTest (part s (b .body .from) (sizeOf (b .body)))))
-    where
-      go : (o : Outcome (Unit {0})) → (o >>= λ v. openedFrom s true (b .body .to)) ≡ ((o >>= λ v. fine (on true (b .body .to))) >>= afterLead s)
-      go (fine v) = refl
-      go (refused n) = refl
+  ftyp-next b (fine u) e =
+      rw (bytes-in s (b .body) (whole-fits 2 (length s) b (sym e)))
+      (sym (bind-assoc (brandTest (part s (b .body .from) (sizeOf (b .body)))) (λ v. fine (on true (b .body .to))) (afterLead s)))
 
   meta-next : (q : Bool) (b : Box) (fit : Outcome (Unit {0}))
       → (require q 6 >>= λ u. fit >>= λ v. fine (b .body)) ≡ ((require q 6 >>= λ u. (fit >>= λ v. fine (b .body .to)) >>= λ to. fine (found (record { from = b .body .from; to = to }))) >>= afterLead s)
@@ -164,10 +151,6 @@ module _ (s : List ℕ) where
   apart-kinds : (b : Box) → is ftyp b ≡ true → is meta b ≡ false
   apart-kinds b e = rw (eqb-true (b .kind) ftyp e)
 
-  fit-then : {A : Type 0} (b : Box) (fit : Outcome (Unit {0})) (k : Box → Outcome A) → ((fit >>= λ u. fine b) >>= k) ≡ (fit >>= λ u. k b)
-  fit-then b (refused n) k = refl
-  fit-then b (fine u) k = refl
-
   abbrev boxThen : Bool → Box → Outcome Span
   boxThen q b = tested topLevel s b >>= λ u. onwards seen (λ q. refused 1) (atMeta (length s)) topLevel s q (boxes topLevel s) b
 
@@ -176,7 +159,7 @@ module _ (s : List ℕ) where
   unfolding tested topLevel onwards seen bodyOver openedFrom
   box-next q at (refused n) e = refl
   box-next q at (fine b) e =
-      fit-then b (if is ftyp b then whole 2 (length s) b else fine tt) (boxThen q)
+      bind-assoc (if is ftyp b then whole 2 (length s) b else fine tt) (λ u. fine b) (boxThen q)
       ∙ by-kind q b (file-begins s at e .order) (is ftyp b) (is meta b) (apart-kinds b)
 
   -- The boxes from a position: one box, and what it leads to.
@@ -203,7 +186,8 @@ module _ (s : List ℕ) where
   opened-end q (refusedAt n b) = refl
   opened-end q (stoppedAt b) = go q (whole 2 (length s) b)
     where
-      go : (q : Bool) (fit : Outcome (Unit {0})) → (require q 6 >>= λ u. fit >>= λ v. fine (b .body)) ≡ ((require q 6 >>= λ u. fit >>= λ v. fine b) >>= λ m. fine (m .body))
+      go : (q : Bool) (fit : Outcome (Unit {0}))
+          → (require q 6 >>= λ u. fit >>= λ v. fine (b .body)) ≡ ((require q 6 >>= λ u. fit >>= λ v. fine b) >>= λ m. fine (m .body))
       go true (fine v) = refl
       go true (refused n) = refl
       go false fit = refl
@@ -213,47 +197,34 @@ module _ (s : List ℕ) where
   opened-start = rw (seen-any false (boxes topLevel s 0 .list)) (opened-end (any (is ftyp) (boxes topLevel s 0 .list)) (boxes topLevel s 0 .end))
 
 -- in the loop: the boxes from `at` on decide the answer
-pub lead-next : (s : List ℕ) (q : Bool) (at : ℕ) → openedFrom s q at ≡ openedBody s → at < length s → {o : Outcome Lead} → o ≡ boxOver s at q → (o >>= afterLead s) ≡ openedBody s
+pub lead-next : (s : List ℕ) (q : Bool) (at : ℕ) → openedFrom s q at ≡ openedBody s → at < length s → {o : Outcome Lead} → o ≡ boxOver s at q
+    → (o >>= afterLead s) ≡ openedBody s
 lead-next s q at inv k e = rw e (sym (opened-next s q at k) ∙ inv)
 
 pub lead-done : (s : List ℕ) (q : Bool) (at : ℕ) → openedFrom s q at ≡ openedBody s → length s ≤ at → refused 1 ≡ openedBody s
 lead-done s q at inv k = opened-done s q at k ∙ inv
 
-abbrev Ahead : ℕ → Outcome Lead → Type 0
-Ahead at (refused n) = Unit {0}
-Ahead at (fine (found p)) = Unit {0}
-Ahead at (fine (on q next)) = at ≤ next
-
-row-ahead : {A : Type 0} (at : ℕ) (o : Outcome A) (f : A → Outcome Lead) → ((x : A) → o ≡ fine x → Ahead at (f x)) → Ahead at (o >>= f)
-row-ahead at (fine x) f h = h x refl
-row-ahead at (refused n) f h = tt
-
-body-ahead : (s : List ℕ) (q : Bool) (b : Box) → b .body .from ≤ b .body .to → Ahead (b .body .from) (bodyOver s q b)
-unfolding bodyOver ftypOver metaOver
-body-ahead s q b h = go (is ftyp b) (is meta b)
-  where
-    go : (k₁ k₂ : Bool) → Ahead (b .body .from) (if k₁ then ftypOver s (b .body .from) (sizeOf (b .body))
-        else if k₂ then metaOver (length s) (b .body .from) (sizeOf (b .body)) q
-        else fine (on q (b .body .to)))
-    go true k₂ = row-ahead (b .body .from) (wholeTo (length s) (b .body .from) (sizeOf (b .body))) _
-        (λ to e. row-ahead (b .body .from) (brandTest (part s (b .body .from) (to - b .body .from))) _ (λ u f. to-inside (length s) (b .body .from) (sizeOf (b .body)) (sym e) .0))
-    go false true = row-ahead (b .body .from) (require q 6) _ (λ u e. row-ahead (b .body .from) (wholeTo (length s) (b .body .from) (sizeOf (b .body))) _ (λ to f. tt))
-    go false false = h
-
 -- a box that is passed leads forward
 pub on-ahead : (s : List ℕ) (q : Bool) (at : ℕ) {q′ : Bool} {next : ℕ} → fine (on q′ next) ≡ boxOver s at q → at < next
-unfolding boxOver
+unfolding boxOver bodyOver ftypOver metaOver
 on-ahead s q at {q′} {next} e =
     let (b, f, g) = bind-fine (fileBoxAt s at) (bodyOver s q) e in
     let i = file-begins s at f in
-    let j : b .body .from ≤ next = subst (Ahead (b .body .from)) (sym g) (body-ahead s q b (i .order)) in
-    omega (arith, i .ahead)
-
--- what the code's `!q` tells of q
-pub not-true : (q : Bool) → not q ≡ true → q ≡ false
-not-true false e = refl
-not-true true e = sym e
-
-pub not-false : (q : Bool) → not q ≡ false → q ≡ true
-not-false true e = refl
-not-false false e = sym e
+    omega (arith, i .ahead, go b (i .order) (is ftyp b) (is meta b) g)
+  where
+    go : (b : Box) → b .body .from ≤ b .body .to → (k₁ k₂ : Bool)
+        → fine (on q′ next) ≡ (if k₁ then ftypOver s (b .body .from) (sizeOf (b .body))
+        else if k₂ then metaOver (length s) (b .body .from) (sizeOf (b .body)) q
+        else fine (on q (b .body .to))) → b .body .from ≤ next
+    go b h true k₂ g =
+        let (to, p, g₁) = bind-fine (wholeTo (length s) (b .body .from) (sizeOf (b .body))) _ g in
+        let (u, r, g₂) = bind-fine (brandTest (part s (b .body .from) (to - b .body .from))) _ g₁ in
+        let z : next ≡ to = cc in
+        omega (arith, to-inside (length s) (b .body .from) (sizeOf (b .body)) p .0)
+    go b h false true g =
+        let (u, p, g₁) = bind-fine (require q 6) _ g in
+        let (to, r, g₂) = bind-fine (wholeTo (length s) (b .body .from) (sizeOf (b .body))) _ g₁ in
+        absurd (let z : _≡_ {A = ℕ} 0 1 = cc in omega arith)
+    go b h false false g =
+        let z : next ≡ b .body .to = cc in
+        omega arith

@@ -1,52 +1,108 @@
--- Document 01's useless versions are shut out: nothing that meets the contract of `get_exif_attr` is one of them.
+-- Document 01's useless versions, and the slips that trainees make, are shut out: what a call that meets the contract of `get_exif_attr` gives for
+-- the images that show them.
 use mathlib.Core.Path.{_≡_, refl, sym, ap, _∙_}
-use Prim.Native.Nat.{ℕ}
+use Prim.Native.Nat.{ℕ, _+_}
 use native.Mathlib.Omega.{arith}
 use mathlib.Core.List.{List, [], _++_}
-use lib.ListN.{take}
+use lib.ListN.{length, take}
 use Rattle.rules.specs.Doc.Bytes.{byteAt}
-use Rattle.rules.specs.Doc.Answers.{Answer, answer}
+use Rattle.rules.specs.Doc.Answers.{answer}
 use Rattle.rules.specs.Unfold.{document}
 use Rattle.rules.specs.Cases.{line, H, fresh}
+use Rattle.boxes.specs.declared.refusal.Refusal.the-variants.{NotFound, NoMatchingEntry}
 use Rattle.join.specs.Told.{told}
-use Rattle.join.specs.Unique.{output-told}
 use Rattle.join.specs.declared.block.Extracted.{Extracted}
 use Rattle.join.specs.declared.block.Extracted.the-variants.{Done, NoRoom, Refused}
 use Rattle.isobmff.specs.Unique.{attr-one}
 
--- a version: for each image and output, what it answers and the output after it
-abbrev pub Version : Type 0
-Version = List ℕ → List ℕ → Extracted × List ℕ
+-- every call with this image and this output answers x, and leaves `after` in the output
+abbrev pub Gives : List ℕ → List ℕ → Extracted → List ℕ → Type 0
+Gives img out x after = (r : Extracted) (a : List ℕ) → told r a ≡ answer img out → (r ≡ x) × (a ≡ after)
 
-abbrev pub Meets : Version → Type 0
-Meets f = (img out : List ℕ) → told (f img out .0) (f img out .1) ≡ answer img out
+gives : (img out : List ℕ) (x : Extracted) (after : List ℕ) → told x after ≡ answer img out → Gives img out x after
+gives img out x after e r a f = attr-one img out r x a after f e
 
--- ---- What document 01 says of H, of the empty image, and of a join of two
+-- H's block in front of what stood in the output
+unfoldable pub written : List ℕ
+written = line 5 0x4d4d002a_09
 
-h-answer : answer H fresh ≡ record { number = 0; length = 4; output = line 5 0x4d4d002a_09 }
+-- ---- Useless versions
+
+-- Refusing always, and a block that is made up. H's extent has length 0, so this shuts out a trainee's slip too: length zero taken for no bytes.
+pub h-is-done : Gives H fresh (Done 4) written
+unfolding document H line fresh written
+h-is-done = gives H fresh (Done 4) written refl
+
+-- A needed length that is made up.
+pub h-needs-four : Gives H (take 3 fresh) (NoRoom 4) (take 3 fresh)
 unfolding document H line fresh
-h-answer = refl
+h-needs-four = gives H (take 3 fresh) (NoRoom 4) (take 3 fresh) refl
 
-h-short : answer H (take 3 fresh) ≡ record { number = 28; length = 4; output = take 3 fresh }
-unfolding document H line fresh
-h-short = refl
+pub empty-is-refused : Gives [] fresh (Refused NotFound) fresh
+unfolding document
+empty-is-refused = gives [] fresh (Refused NotFound) fresh refl
 
-empty-answer : answer [] fresh ≡ record { number = 1; length = 0; output = fresh }
-unfolding document line fresh
-empty-answer = refl
+-- One answer for all.
+pub not-one-answer : (r : Extracted) (a b : List ℕ) → told r a ≡ answer H fresh → told r b ≡ answer [] fresh → ⊥
+not-one-answer r a b e f =
+    let z : told (Refused NotFound) b .number ≡ told (Done 4) b .number
+    = ap (λ (x : Extracted). told x b .number) (sym (empty-is-refused r b f .0) ∙ h-is-done r a e .0) in
+    omega arith
 
--- H with two extents: the offset and `aa` are in the first, the block in the second
-unfoldable pub twoExtents : List ℕ
-twoExtents = line 20 0x00000014_66747970_6d696631_00000000_6d696631
-    ++ line 12 0x00000068_6d657461_00000000
+-- Writing nothing and answering 0.
+pub not-writing-nothing : (r : Extracted) → told r fresh ≡ answer H fresh → ⊥
+unfolding fresh written line
+not-writing-nothing r e =
+    let z : _≡_ {A = ℕ} 9 0x4d = ap (λ (s : List ℕ). byteAt s 0) (h-is-done r fresh e .1) in
+    omega arith
+
+-- H with another `iloc`
+unfoldable pub withTable : List ℕ → List ℕ
+withTable table = line 20 0x00000014_66747970_6d696631_00000000_6d696631
+    ++ line 4 (64 + length table)
+    ++ line 8 0x6d657461_00000000
     ++ line 14 0x00000023_69696e66_00000000_0001
     ++ line 21 0x00000015_696e6665_02000000_0001_0000_45786966_00
-    ++ line 40 0x00000028_696c6f63_01000000_4400_0001_0001_0001_0000_0002_00000000_00000005_00000005_00000004
+    ++ table
     ++ line 17 0x00000011_69646174_00000001_aa_4d4d002a
 
-two-answer : answer twoExtents fresh ≡ record { number = 0; length = 4; output = line 5 0x4d4d002a_09 }
-unfolding document twoExtents line fresh
-two-answer = refl
+-- two extents, of two bytes and of seven
+unfoldable pub twoExtents : List ℕ
+twoExtents = withTable (line 40 0x00000028_696c6f63_01000000_4400_0001_0001_0001_0000_0002_00000000_00000002_00000002_00000007)
+
+-- Copying the first extent and only pretending for later ones; and the slip of reading the four bytes from the first extent when it has two.
+pub both-extents-count : Gives twoExtents fresh (Done 4) written
+unfolding document twoExtents withTable line fresh written
+both-extents-count = gives twoExtents fresh (Done 4) written refl
+
+-- ---- Slips
+
+-- two entries of the wanted id, the first with an extent of one byte
+unfoldable pub twoEntries : List ℕ
+twoEntries = withTable (line 48 0x00000030_696c6f63_01000000_4400_0002_0001_0001_0000_0001_00000000_00000001_0001_0001_0000_0001_00000000_00000000)
+
+-- Stopping at the first entry of the wanted id.
+pub last-entry-wins : Gives twoEntries fresh (Done 4) written
+unfolding document twoEntries withTable line fresh written
+last-entry-wins = gives twoEntries fresh (Done 4) written refl
+
+-- an offset size of 3, and one entry, of another item
+unfoldable pub otherSizes : List ℕ
+otherSizes = withTable (line 31 0x0000001f_696c6f63_01000000_3400_0001_0002_0001_0000_0001_00000000000000)
+
+-- Judging sizes of other items.
+pub other-sizes-unjudged : Gives otherSizes fresh (Refused NoMatchingEntry) fresh
+unfolding document otherSizes withTable line fresh
+other-sizes-unjudged = gives otherSizes fresh (Refused NoMatchingEntry) fresh refl
+
+-- an `mdat` of 20 bytes of which 10 are there
+unfoldable pub cutMdat : List ℕ
+cutMdat = line 10 0x00000014_6d646174_0000
+
+-- A cut `mdat` before any `meta` refused as 2.
+pub cut-mdat-skipped : Gives cutMdat fresh (Refused NotFound) fresh
+unfolding document cutMdat line fresh
+cut-mdat-skipped = gives cutMdat fresh (Refused NotFound) fresh refl
 
 -- H with `iloc` before `iinf`
 unfoldable pub ilocFirst : List ℕ
@@ -57,60 +113,7 @@ ilocFirst = line 20 0x00000014_66747970_6d696631_00000000_6d696631
     ++ line 21 0x00000015_696e6665_02000000_0001_0000_45786966_00
     ++ line 17 0x00000011_69646174_00000001_aa_4d4d002a
 
-first-answer : answer ilocFirst fresh ≡ record { number = 0; length = 4; output = line 5 0x4d4d002a_09 }
-unfolding document ilocFirst line fresh
-first-answer = refl
-
--- ---- The useless versions
-
-module _ (f : Version) (meets : Meets f) where
-  abbrev saidNumber : List ℕ → List ℕ → ℕ
-  saidNumber img out = told (f img out .0) (f img out .1) .number
-
-  number-of : (img out : List ℕ) (a : Answer) → answer img out ≡ a → saidNumber img out ≡ a .number
-  number-of img out a e = ap (λ (a : Answer). a .number) (meets img out ∙ e)
-
-  after-of : (img out : List ℕ) (a : Answer) → answer img out ≡ a → f img out .1 ≡ a .output
-  after-of img out a e = sym (output-told (f img out .0) (f img out .1)) ∙ ap (λ (a : Answer). a .output) (meets img out ∙ e)
-
-  -- Refusing always.
-  pub not-refusing-always : ((img out : List ℕ) → saidNumber img out ≡ 0 → ⊥) → ⊥
-  not-refusing-always h = h H fresh (number-of H fresh _ h-answer)
-
-  -- One answer for all.
-  pub not-one-answer : (r : Extracted) → ((img out : List ℕ) → f img out .0 ≡ r) → ⊥
-  not-one-answer r h =
-      let e : told r (f H fresh .1) .number ≡ 0 = ap (λ r. told r (f H fresh .1) .number) (sym (h H fresh)) ∙ number-of H fresh _ h-answer in
-      let g : told r (f [] fresh .1) .number ≡ 1 = ap (λ r. told r (f [] fresh .1) .number) (sym (h [] fresh)) ∙ number-of [] fresh _ empty-answer in
-      let k = same r (f H fresh .1) (f [] fresh .1) in
-      omega arith
-    where
-      same : (r : Extracted) (a b : List ℕ) → told r a .number ≡ told r b .number
-      same (Done n) a b = refl
-      same (NoRoom n) a b = refl
-      same (Refused e) a b = refl
-
-  -- Writing nothing and answering 0.
-  pub not-writing-nothing : ((img out : List ℕ) → f img out .1 ≡ out) → ⊥
-  unfolding line fresh
-  not-writing-nothing h =
-      let e : line 5 0x0909090909 ≡ line 5 0x4d4d002a_09 = sym (h H fresh) ∙ after-of H fresh _ h-answer in
-      let z : _≡_ {A = ℕ} 9 0x4d = ap (λ (s : List ℕ). byteAt s 0) e in
-      omega arith
-
-  -- Copying the first extent and only pretending for later ones.
-  pub later-extents-copied : f twoExtents fresh .1 ≡ line 5 0x4d4d002a_09
-  later-extents-copied = after-of twoExtents fresh _ two-answer
-
-  -- A block or needed length that is made up.
-  pub block-of-h : (f H fresh .0 ≡ Done 4) × (f H fresh .1 ≡ line 5 0x4d4d002a_09)
-  block-of-h = attr-one H fresh (f H fresh .0) (Done 4) (f H fresh .1) (line 5 0x4d4d002a_09) (meets H fresh) (sym h-answer)
-
-  pub needed-of-h : f H (take 3 fresh) .0 ≡ NoRoom 4
-  needed-of-h = attr-one H (take 3 fresh) (f H (take 3 fresh) .0) (NoRoom 4) (f H (take 3 fresh) .1) (take 3 fresh) (meets H (take 3 fresh)) (sym h-short) .0
-
-  -- A slip: `iloc` read when met, before the wanted id is known, would find no entry (17).
-  pub not-reading-iloc-when-met : saidNumber ilocFirst fresh ≡ 17 → ⊥
-  not-reading-iloc-when-met h =
-      let e = number-of ilocFirst fresh _ first-answer in
-      omega arith
+-- `iloc` read when met, before the wanted id is known.
+pub iloc-read-later : Gives ilocFirst fresh (Done 4) written
+unfolding document ilocFirst line fresh written
+iloc-read-later = gives ilocFirst fresh (Done 4) written refl

@@ -9,46 +9,59 @@ use Rattle.rules.specs.Doc.Outcomes.{Outcome, fine, refused, _>>=_}
 use Rattle.rules.specs.Doc.Bytes.{part, Span, sizeOf, bytesIn}
 use Rattle.rules.specs.Doc.Headers.{Box}
 use Rattle.rules.specs.Doc.Meta.{opened}
-use Rattle.rules.specs.Doc.Children.{Kept, kept}
-use Rattle.rules.specs.Doc.Answers.{Answer, answerWith, answer}
+use Rattle.rules.specs.Doc.Children as doc
+use Rattle.rules.specs.Doc.Children.{kept}
+use Rattle.rules.specs.Doc.Answers.{Answer, answer}
 use Rattle.rules.specs.Laws.Rows.{apart, bind-fine}
 use Rattle.rules.specs.Laws.Numbers.{bytes-in}
 use Rattle.rules.specs.Laws.Lies.{Lies, opened-lies, iloc-lies, idat-lies}
-use Rattle.rules.specs.Laws.Gather.{storeOf, itemBlock, answerOf}
-use Rattle.rules.specs.Laws.Lent.{storeIn, keptBlock, metaBlock, answer-lent}
+use Rattle.rules.specs.OverBytes.{storeOf, itemBlock, answerOf, refusal, storeIn, keptBlock, metaBlock}
+use Rattle.rules.specs.Laws.Gather.{answer-refused}
+use Rattle.rules.specs.Laws.Lent.{answer-lent}
+use Rattle.isobmff.specs.declared.meta.Last.{Last}
+use Rattle.isobmff.specs.declared.meta.Last.the-variants.{Unset, At}
+use Rattle.isobmff.specs.declared.meta.Kept.{Kept}
+use Rattle.isobmff.specs.declared.meta.Kept.the-variants.{Found}
+use Rattle.isobmff.specs.Told.{spanOf, keptOf}
 use Rattle.isobmff.specs.Top.{openedBody}
-
--- a refusal keeps the output
-abbrev refusal : ℕ → List ℕ → Answer
-refusal n out = record { number = n; length = 0; output = out }
-
-refused-answer : (n : ℕ) (out : List ℕ) {o : Outcome (List ℕ)} → refused n ≡ o → refusal n out ≡ answerOf out o
-unfolding answerOf answerWith
-refused-answer n out e = rw (← e)
 
 -- ---- The body of `meta`
 
-module _ (img body out : List ℕ) where
-  pub meta-refused : {n : ℕ} → refused n ≡ kept body → refusal n out ≡ answerOf out (metaBlock img body)
-  unfolding metaBlock
-  meta-refused {n} e = refused-answer n out (ap (λ (o : Outcome Kept). o >>= keptBlock img body) e)
+pub meta-refused : (img body out : List ℕ) {n : ℕ} → refused n ≡ kept body → refusal n out ≡ answerOf out (metaBlock img body)
+unfolding metaBlock
+meta-refused img body out {n} e = answer-refused n out (ap (λ (o : Outcome doc.Kept). o >>= keptBlock img body) e)
 
-  module _ {wanted : ℕ} {p : Span} (o : Option Span) (e : fine (record { wanted = wanted; iloc = p; idat = o }) ≡ kept body) where
-    kept-answer : {a : Answer} (store : Option (List ℕ)) → store ≡ storeIn body o → a ≡ answerOf out (itemBlock img store (part body (p .from) (sizeOf p)) wanted)
+-- what `parse_meta` found
+module _ (body : List ℕ) {r : Kept} (e : keptOf r ≡ kept body) {id from to : ℕ} {idat : Last} (f : r ≡ Found id from to idat) where
+  abbrev left : doc.Kept
+  left = record { wanted = id; iloc = record { from = from; to = to }; idat = spanOf idat }
+
+  found : fine left ≡ kept body
+  found = sym (ap keptOf f) ∙ e
+
+  pub iloc-inside : Lies (length body) (left .iloc)
+  iloc-inside = iloc-lies body left (sym found)
+
+  pub idat-inside : {start end : ℕ} → idat ≡ At start end → Lies (length body) (record { from = start; to = end })
+  idat-inside g = idat-lies body left _ (sym found) (ap spanOf g)
+
+  module _ (img out : List ℕ) {a : Answer} where
+    kept-answer : (store : Option (List ℕ)) → store ≡ storeIn body (spanOf idat) → a ≡ answerOf out (itemBlock img store (part body from (to - from)) id)
         → a ≡ answerOf out (metaBlock img body)
     unfolding metaBlock keptBlock
-    kept-answer store f h = rw (← e, ← f, bytes-in body p (iloc-lies body (record { wanted = wanted; iloc = p; idat = o }) (sym e) .inner)) h
+    kept-answer store g h = rw (← found, ← g, bytes-in body (left .iloc) (iloc-inside .inner)) h
 
-    -- with no `idat` and with one
-    pub without-idat : {a : Answer} (s : List ℕ) → o ≡ none → a ≡ answerOf out (itemBlock img (storeOf false s) (part body (p .from) (sizeOf p)) wanted)
+    pub without-idat : (s : List ℕ) → idat ≡ Unset → a ≡ answerOf out (itemBlock img (storeOf false s) (part body from (to - from)) id)
         → a ≡ answerOf out (metaBlock img body)
     unfolding storeOf storeIn
-    without-idat s f h = kept-answer none (rw f) h
+    without-idat s g h = kept-answer none (rw g) h
 
-    pub with-idat : {a : Answer} {d : Span} → o ≡ some d → a ≡ answerOf out (itemBlock img (storeOf true (part body (d .from) (sizeOf d))) (part body (p .from) (sizeOf p)) wanted)
+    pub with-idat : {start end : ℕ} → idat ≡ At start end
+        → a ≡ answerOf out (itemBlock img (storeOf true (part body start (end - start))) (part body from (to - from)) id)
         → a ≡ answerOf out (metaBlock img body)
     unfolding storeOf storeIn
-    with-idat {d = d} f h = kept-answer (some (part body (d .from) (sizeOf d))) (rw (f, bytes-in body d (idat-lies body (record { wanted = wanted; iloc = p; idat = o }) d (sym e) f .inner))) h
+    with-idat {start} {end} g h =
+        kept-answer (some (part body start (end - start))) (rw (g, bytes-in body (record { from = start; to = end }) (idat-inside g .inner))) h
 
 -- ---- The image
 
@@ -71,9 +84,10 @@ module _ (img out : List ℕ) where
       go (fine m) e = absurd (apart (sym e))
       go (refused k) e =
           let z : n ≡ k = cc in
-          refused-answer n out (ap refused z)
+          answer-refused n out (ap refused z)
 
-  pub image-opened : {p : Span} → fine p ≡ openedBody img → {a : Answer} → a ≡ answerOf out (metaBlock img (part img (p .from) (sizeOf p))) → a ≡ answer img out
+  pub image-opened : {p : Span} → fine p ≡ openedBody img → {a : Answer} → a ≡ answerOf out (metaBlock img (part img (p .from) (sizeOf p)))
+      → a ≡ answer img out
   image-opened {p} e h =
       let (m, f, g) = body-of img e in
       let z : p ≡ m .body = cc in

@@ -1,8 +1,7 @@
 // The Exif block of a HEIF image.
 ghost use mathlib.Core.Path.{_≡_};
 ghost use Rattle.rules.specs.Doc.Answers.{answer};
-ghost use Rattle.rules.specs.Laws.Gather.{answerOf};
-ghost use Rattle.rules.specs.Laws.Lent.{metaBlock};
+ghost use Rattle.rules.specs.OverBytes.{answerOf, metaBlock};
 ghost use Rattle.join.specs.Told.{told};
 
 mod meta;
@@ -15,7 +14,7 @@ use meta::parse_meta;
 use top::Top;
 use top::parse;
 
-// Steps 2 to 10, with the body of the first `meta`.
+// Steps 2 to 10 from the version of the first `meta` on, with its body.
 fn from_meta<'a>(image: &'a [u8], body: &'a [u8], out: &mut [u8]) -> Extracted
     ensures { λ r. ⌜ told r (now (out .exit)) ≡ answerOf (now (out .entry)) (metaBlock (now (image .entry)) (now (body .entry))) ⌝ }
 {
@@ -26,31 +25,19 @@ fn from_meta<'a>(image: &'a [u8], body: &'a [u8], out: &mut [u8]) -> Extracted
             from,
             to,
             idat,
-        } => match idat {
-            Last::Unset => join::extract_item(
-                image,
-                &body[0..0],
-                false,
-                &body[from..to],
-                item_id,
-                out,
-            ),
-            Last::At {
-                from: start,
-                to: end,
-            } => join::extract_item(
-                image,
-                &body[start..end],
-                true,
-                &body[from..to],
-                item_id,
-                out,
-            ),
-        },
+        } => {
+            let iloc = &body[from..to];
+            match idat {
+                Last::Unset => { join::extract_item(image, &body[0..0], false, iloc, item_id, out) }
+                Last::At { from, to } => {
+                    join::extract_item(image, &body[from..to], true, iloc, item_id, out)
+                }
+            }
+        }
     }
 }
 
-// The Exif block of `image` goes to the front of `out`. On any refusal `out` is untouched.
+// The Exif block of `image` goes to the front of `out`; on any refusal `out` is untouched. The answer is `join`'s, since the room is asked there.
 pub fn get_exif_attr(image: &[u8], out: &mut [u8]) -> Extracted
     ensures { λ r. ⌜ told r (now (out .exit)) ≡ answer (now (image .entry)) (now (out .entry)) ⌝ }
 {

@@ -21,7 +21,7 @@ const IDAT: u32 = 0x69646174;
 const CHILDREN: usize = 4;
 
 // Where the body of the last box of a type is, once one was met.
-pub enum Last {
+pub(crate) enum Last {
     Unset,
     At { from: usize, to: usize },
 }
@@ -33,6 +33,7 @@ struct Seen {
     idat: Last,
 }
 
+// What they leave with one more, or why it is refused.
 enum Met {
     Read(Seen),
     Refused(Refusal),
@@ -71,6 +72,7 @@ fn child(body: &[u8], kind: u32, from: usize, to: usize, seen: Seen) -> Met
     }
 }
 
+// All children, in order. `iloc` may stand before `iinf`, so it is only kept here, and read when the wanted id is known.
 fn children(body: &[u8]) -> Met
     ensures { λ r. ⌜ metOf r ≡ childrenOver (now (body .entry)) ⌝ }
 {
@@ -96,7 +98,7 @@ fn children(body: &[u8]) -> Met
 }
 
 // What the children leave: the wanted id, where the last `iloc` is, and where the last `idat` is if there is one.
-pub enum Kept {
+pub(crate) enum Kept {
     Found {
         item_id: u64,
         from: usize,
@@ -106,7 +108,7 @@ pub enum Kept {
     Refused(Refusal),
 }
 
-// After the children.
+// After the children: no wanted id is asked first, then no `iloc`.
 fn after(seen: Seen) -> Kept
     ensures { λ r. ⌜ keptOf r ≡ afterwards (seenOf seen) ⌝ }
 {
@@ -127,7 +129,8 @@ fn after(seen: Seen) -> Kept
     }
 }
 
-pub fn parse_meta(body: &[u8]) -> Kept
+// The version is judged before any child is looked at.
+pub(crate) fn parse_meta(body: &[u8]) -> Kept
     ensures { λ r. ⌜ keptOf r ≡ kept (now (body .entry)) ⌝ }
 {
     match boxes::fullbox_header(body, 0) {

@@ -86,12 +86,12 @@ fn file_level_box(image: &[u8], at: usize, ftyp_checked: bool) -> Next
 }
 
 // Where the body of the first `meta` is, or why there is none.
-pub enum Top {
+pub(crate) enum Top {
     Meta { from: usize, to: usize },
     Refused(Refusal),
 }
 
-pub fn parse(image: &[u8]) -> Top
+pub(crate) fn parse(image: &[u8]) -> Top
     ensures { λ r. ⌜ topOf r ≡ openedBody (now (image .entry)) ⌝ }
 {
     let mut at: usize = 0;

@@ -12,6 +12,6 @@ abbrev pub idOf : ItemId → Option ℕ
 idOf Unset = none
 idOf (Is i) = some i
 
-abbrev pub ids : Ids → Outcome (Option ℕ)
-ids (Read i) = fine (idOf i)
-ids (Refused e) = refused (number e)
+abbrev pub idsOf : Ids → Outcome (Option ℕ)
+idsOf (Read i) = fine (idOf i)
+idsOf (Refused e) = refused (number e)

@@ -1,10 +1,12 @@
--- No two answers say the same, so each contract of this crate determines its function's answer.
+-- No two answers meet a contract of this crate.
 use mathlib.Core.Path.{_≡_, refl, ap}
 use mathlib.Core.Option.{Option, none, some}
+use mathlib.Core.List.{List}
 use Prim.Native.Nat.{ℕ}
 use Rattle.rules.specs.Doc.Outcomes.{Outcome, fine, refused}
 use Rattle.boxes.specs.Unique.{one, asRefusal, refusal-back}
-use Rattle.items.specs.Told.{idOf, ids}
+use Rattle.items.specs.Told.{idOf, idsOf}
+use Rattle.items.specs.Wanted.{infeOver, iinfOver}
 use Rattle.items.specs.declared.ItemId.{ItemId}
 use Rattle.items.specs.declared.ItemId.the-variants.{Unset, Is}
 use Rattle.items.specs.declared.Ids.{Ids}
@@ -23,11 +25,16 @@ asIds : Outcome (Option ℕ) → Ids
 asIds (fine i) = Read (asItemId i)
 asIds (refused n) = Refused (asRefusal n)
 
-ids-back : (x : Ids) → asIds (ids x) ≡ x
+ids-back : (x : Ids) → asIds (idsOf x) ≡ x
 unfolding asIds
 ids-back (Read i) = ap Read (id-back i)
 ids-back (Refused e) = ap Refused (refusal-back e)
 
--- of `parse_infe`, with `infeOver body w` as what is told, and of `parse_iinf`, with `iinfOver body w`
-pub ids-one : {o : Outcome (Option ℕ)} {x y : Ids} → ids x ≡ o → ids y ≡ o → x ≡ y
-ids-one e f = one ids asIds ids-back e f
+module _ (body : List ℕ) (w : Option ℕ) {x y : Ids} where
+  -- of `parse_infe`
+  pub infe-one : idsOf x ≡ infeOver body w → idsOf y ≡ infeOver body w → x ≡ y
+  infe-one e f = one idsOf asIds ids-back e f
+
+  -- of `parse_iinf`
+  pub iinf-one : idsOf x ≡ iinfOver body w → idsOf y ≡ iinfOver body w → x ≡ y
+  iinf-one e f = one idsOf asIds ids-back e f

@@ -10,7 +10,7 @@ use Rattle.rules.specs.Doc.Outcomes.{if_then_else_, Outcome, fine, refused, _>>
 use Rattle.rules.specs.Doc.Lists.{only, lastOf, each}
 use Rattle.rules.specs.Doc.Bytes.{part, sizeOf, bytesIn, field, version}
 use Rattle.rules.specs.Doc.Walks.{outcome}
-use Rattle.rules.specs.Doc.Headers.{infe, Box, isKind, is, childAt}
+use Rattle.rules.specs.Doc.Headers.{infe, Exif, Box, isKind, is, childAt}
 use Rattle.rules.specs.Doc.Levels.{tested, countedBoxes, inside}
 use Rattle.rules.specs.Doc.Iinf.{Item, itemIdSize, item, itemTest, isExif, itemIn, items}
 use Rattle.rules.specs.Doc.Iinf.{Count, countSize, infoCount, infoLevel, infos, infoTest, infoBoxes}
@@ -18,13 +18,19 @@ use Rattle.rules.specs.Laws.Numbers.{bytes-in}
 use Rattle.rules.specs.Laws.Headers.{child-inside}
 use Rattle.rules.specs.Laws.Fold.{folded, leaves, readNext, counted-children-next, counted-children-done}
 use Rattle.rules.specs.Laws.Last.{orElse, mapped, keep, keep-last, feed, feed-each}
+use Rattle.boxes.specs.Told.{number, fieldOf}
+use Rattle.boxes.specs.declared.refusal.Refusal.{Refusal}
+use Rattle.boxes.specs.declared.field.Number.{Number}
+use Rattle.boxes.specs.declared.field.Number.the-variants.{Got, Refused}
+
+-- ---- What the public contracts cite
 
 -- one `infe`: type `Exif` sets the wanted id
 unfoldable pub infeOver : List ℕ → Option ℕ → Outcome (Option ℕ)
 infeOver body w = item body >>= λ i. fine (if isExif i then some (i .id) else w)
 
 -- the id of the last Exif item
-unfoldable pub lastId : List Item → Option ℕ
+abbrev lastId : List Item → Option ℕ
 lastId xs = mapped (λ i. i .id) (lastOf (only isExif xs))
 
 -- one `iinf`: the last of its Exif items wins, over what was wanted before it too
@@ -37,8 +43,8 @@ iinfOver body w = infoTest body >>= λ u. fine (orElse (lastId (items body)) w)
 unfoldable pub wants : Option ℕ → Item → Option ℕ
 wants = keep isExif (λ i. i .id)
 
-pub last-wanted : (w : Option ℕ) (xs : List Item) → folded wants w xs ≡ orElse (lastId xs) w
-unfolding wants lastId
+last-wanted : (w : Option ℕ) (xs : List Item) → folded wants w xs ≡ orElse (lastId xs) w
+unfolding wants
 last-wanted w xs = keep-last isExif (λ i. i .id) w xs
 
 pub iinf-folded : (body : List ℕ) (w : Option ℕ) → iinfOver body w ≡ (infoTest body >>= λ u. fine (folded wants w (items body)))
@@ -55,6 +61,32 @@ behindId body id at w = (do
   k ← field body (at + 2) 4
   fine (record { id = i; kind = k })) >>= λ i. fine (if isExif i then some (i .id) else w)
 
+-- each read was refused, or gave a number
+module _ (body : List ℕ) (at : ℕ) (w : Option ℕ) {a : Number} where
+  pub id-refused : {e : Refusal} → a ≡ Refused e → refused (number e) ≡ behindId body (fieldOf a) at w
+  unfolding behindId
+  id-refused ga = rw ga
+
+  module _ {i : ℕ} (ga : a ≡ Got i) {b : Number} (eb : fieldOf b ≡ field body at 2) where
+    pub two-refused : {e : Refusal} → b ≡ Refused e → refused (number e) ≡ behindId body (fieldOf a) at w
+    unfolding behindId
+    two-refused gb = rw (ga, ← eb, gb)
+
+    module _ {u : ℕ} (gb : b ≡ Got u) {d : Number} (ed : fieldOf d ≡ field body (at + 2) 4) where
+      pub type-refused : {e : Refusal} → d ≡ Refused e → refused (number e) ≡ behindId body (fieldOf a) at w
+      unfolding behindId
+      type-refused gd = rw (ga, ← eb, gb, ← ed, gd)
+
+      module _ {k : ℕ} (gd : d ≡ Got k) where
+        pub type-exif : k ≡ Exif → fine (some i) ≡ behindId body (fieldOf a) at w
+        unfolding behindId isExif
+        type-exif h = rw (ga, ← eb, gb, ← ed, gd, h)
+
+        pub type-other : (k ≡ Exif → ⊥) → fine w ≡ behindId body (fieldOf a) at w
+        unfolding behindId isExif
+        type-other h = rw (ga, ← eb, gb, ← ed, gd, ne-eqb k Exif h)
+
+-- by the version
 module _ (body : List ℕ) (w : Option ℕ) where
   pub infe-cut : {n : ℕ} → refused n ≡ version body 0 → refused n ≡ infeOver body w
   unfolding infeOver item
@@ -80,11 +112,11 @@ unfoldable pub entryOver : ℕ → List ℕ → Option ℕ → Outcome (Option �
 entryOver kind body w = if isKind infe kind then infeOver body w else fine w
 
 -- what a box makes of the wanted id
-unfoldable pub sees : List ℕ → Option ℕ → Box → Option ℕ
+sees : List ℕ → Option ℕ → Box → Option ℕ
 sees body = feed wants (is infe) (itemIn body)
 
 -- that many boxes, from a position
-unfoldable pub entriesOver : List ℕ → ℕ → ℕ → Option ℕ → Outcome (Option ℕ)
+pub entriesOver : List ℕ → ℕ → ℕ → Option ℕ → Outcome (Option ℕ)
 entriesOver body n at w = leaves (sees body) w (countedBoxes infoLevel body n at)
 
 -- the same, behind the count
@@ -104,7 +136,8 @@ module _ (body : List ℕ) (w : Option ℕ) where
           → ((o >>= λ c. outcome (infos body c .end)) >>= λ u. fine (folded wants w (itemsOf (once (λ c. infos body c .list) o))))
           ≡ (o >>= λ c. leaves (sees body) w (infos body c))
       go (fine c) =
-          ap (λ (r : Option ℕ). outcome (infos body c .end) >>= λ u. fine r) (sym (feed-each wants (is infe) (itemIn body) w (infos body c .list)))
+          let fed = feed-each wants (is infe) (itemIn body) w (infos body c .list) in
+          ap (λ (r : Option ℕ). outcome (infos body c .end) >>= λ u. fine r) (sym fed)
       go (refused n) = refl
 
   pub iinf-cut : {n : ℕ} → refused n ≡ version body 0 → refused n ≡ iinfOver body w
@@ -154,14 +187,16 @@ module _ (body : List ℕ) (n i at : ℕ) (w : Option ℕ) {r : Outcome (Option 
   unfolding entriesOver infoLevel
   entries-none h =
       let k : n - i ≡ 0 = omega arith in
-      sym (counted-children-done (sees body) (isKind infe) itemTest body (reads body) (reads-agree body) w at) ∙ (rw k at inv)
+      let done = counted-children-done (sees body) (isKind infe) itemTest body (reads body) (reads-agree body) w at in
+      sym done ∙ (rw k at inv)
 
   module _ (h : i < n) where
     entries-next : (childAt body at >>= λ b. reads body w b >>= λ w. entriesOver body (n - (i + 1)) (b .body .to) w) ≡ r
     unfolding entriesOver infoLevel readNext
     entries-next =
         let k : n - i ≡ suc (n - (i + 1)) = omega arith in
-        sym (counted-children-next (sees body) (isKind infe) itemTest body (reads body) (reads-agree body) w (n - (i + 1)) at) ∙ (rw k at inv)
+        let next = counted-children-next (sees body) (isKind infe) itemTest body (reads body) (reads-agree body) w (n - (i + 1)) at in
+        sym next ∙ (rw k at inv)
 
     pub entries-cut : {m : ℕ} → refused m ≡ childAt body at → refused m ≡ r
     entries-cut e = rw (← e) at entries-next

@@ -2,7 +2,7 @@
 ghost use mathlib.Core.Path.{_≡_};
 ghost use Prim.Native.Nat.{_+_, _^_, _<_};
 ghost use Rattle.boxes.specs.Told.{fieldOf};
-ghost use Rattle.items.specs.Told.{idOf, ids};
+ghost use Rattle.items.specs.Told.{idOf, idsOf};
 ghost use Rattle.items.specs.Wanted.{infeOver, behindId, entryOver, countOver, iinfOver};
 use boxes::Child;
 use boxes::Number;
@@ -26,7 +26,7 @@ pub enum Ids {
 
 // An `iinf`, after those that left `wanted`. Later bytes are ignored.
 pub fn parse_iinf(body: &[u8], wanted: ItemId) -> Ids
-    ensures { λ r. ⌜ ids r ≡ iinfOver (now (body .entry)) (idOf wanted) ⌝ }
+    ensures { λ r. ⌜ idsOf r ≡ iinfOver (now (body .entry)) (idOf wanted) ⌝ }
 {
     match boxes::fullbox_header(body, 0) {
         Number::Refused(e) => Ids::Refused(e),
@@ -39,7 +39,7 @@ pub fn parse_iinf(body: &[u8], wanted: ItemId) -> Ids
 
 // That many boxes. The count is a promise only: the loop ends at the first box that doesn't fit, with its refusal.
 fn entries(body: &[u8], count: Number, first: usize, wanted: ItemId) -> Ids
-    ensures { λ r. ⌜ ids r ≡ countOver (now (body .entry)) (fieldOf count) first (idOf wanted) ⌝ }
+    ensures { λ r. ⌜ idsOf r ≡ countOver (now (body .entry)) (fieldOf count) first (idOf wanted) ⌝ }
 {
     match count {
         Number::Refused(e) => Ids::Refused(e),
@@ -65,7 +65,7 @@ fn entries(body: &[u8], count: Number, first: usize, wanted: ItemId) -> Ids
 
 // The `infe` among them are read.
 fn entry(kind: u32, body: &[u8], wanted: ItemId) -> Ids
-    ensures { λ r. ⌜ ids r ≡ entryOver kind (now (body .entry)) (idOf wanted) ⌝ }
+    ensures { λ r. ⌜ idsOf r ≡ entryOver kind (now (body .entry)) (idOf wanted) ⌝ }
 {
     match kind {
         INFE => parse_infe(body, wanted),
@@ -75,7 +75,7 @@ fn entry(kind: u32, body: &[u8], wanted: ItemId) -> Ids
 
 // An `infe`, after those that left `wanted`.
 pub fn parse_infe(body: &[u8], wanted: ItemId) -> Ids
-    ensures { λ r. ⌜ ids r ≡ infeOver (now (body .entry)) (idOf wanted) ⌝ }
+    ensures { λ r. ⌜ idsOf r ≡ infeOver (now (body .entry)) (idOf wanted) ⌝ }
 {
     match boxes::fullbox_header(body, 0) {
         Number::Refused(e) => Ids::Refused(e),
@@ -90,7 +90,7 @@ pub fn parse_infe(body: &[u8], wanted: ItemId) -> Ids
 // The rest of an `infe`, whose id ends at `at`: two bytes, then four of type.
 fn behind_id(body: &[u8], id: Number, at: usize, wanted: ItemId) -> Ids
     requires { ⌜ at + 2 < 2 ^ 64 ⌝ }
-    ensures { λ r. ⌜ ids r ≡ behindId (now (body .entry)) (fieldOf id) at (idOf wanted) ⌝ }
+    ensures { λ r. ⌜ idsOf r ≡ behindId (now (body .entry)) (fieldOf id) at (idOf wanted) ⌝ }
 {
     match id {
         Number::Refused(e) => Ids::Refused(e),

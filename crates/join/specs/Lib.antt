@@ -1,5 +1,4 @@
 pub mod Told
-pub mod Extents
 pub mod Answers
 pub mod Methods
 pub mod Unique

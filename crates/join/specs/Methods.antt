@@ -7,15 +7,13 @@ use lib.Dec.{eqb}
 use borrow.Author.Tests.{eq-eqb, ne-eqb}
 use Rattle.rules.specs.Doc.Outcomes.{fine, refused}
 use Rattle.rules.specs.Doc.Iloc.{Chosen, chosen}
-use Rattle.rules.specs.Doc.Answers.{Answer, answerWith}
-use Rattle.rules.specs.Laws.Gather.{storeOf, named, chosenBlock, itemBlock, answerOf}
+use Rattle.rules.specs.Doc.Answers.{Answer}
+use Rattle.rules.specs.Doc.Join.{byMethod}
+use Rattle.rules.specs.OverBytes.{storeOf, chosenBlock, itemBlock, answerOf, refusal}
+use Rattle.rules.specs.Laws.Gather.{answer-refused}
 use Rattle.locations.specs.Told.{locationIn}
 use Rattle.locations.specs.declared.Location.{Location}
 use Rattle.join.specs.Told.{blockBy}
-
--- an answer without a block
-abbrev refusal : ℕ → List ℕ → Answer
-refusal n out = record { number = n; length = 0; output = out }
 
 -- ---- Which entry, steps 7 and 8
 
@@ -24,8 +22,8 @@ module _ (image idat : List ℕ) (stored : Bool) (iloc : List ℕ) (wanted : ℕ
   itemAnswer = answerOf out (itemBlock image (storeOf stored idat) iloc wanted)
 
   pub item-refused : {n : ℕ} → refused n ≡ chosen iloc wanted → refusal n out ≡ itemAnswer
-  unfolding itemBlock answerOf answerWith
-  item-refused e = rw (← e)
+  unfolding itemBlock
+  item-refused {n} e = answer-refused n out (rw (← e))
 
   pub item-found : {c : Chosen} → fine c ≡ chosen iloc wanted
       → {a : Answer} → a ≡ answerOf out (chosenBlock image (storeOf stored idat) iloc c) → a ≡ itemAnswer
@@ -38,27 +36,27 @@ module _ (image idat : List ℕ) (stored : Bool) (iloc : List ℕ) (l : Location
   abbrev method : ℕ
   method = locationIn l .entry .method
 
-  abbrev answered : Answer
-  answered = answerOf out (chosenBlock image (storeOf stored idat) iloc (locationIn l))
+  abbrev chosenAnswer : Answer
+  chosenAnswer = answerOf out (chosenBlock image (storeOf stored idat) iloc (locationIn l))
 
-  pub method-0 : method ≡ 0 → {a : Answer} → a ≡ answerOf out (blockBy image idat iloc l) → a ≡ answered
-  unfolding chosenBlock named
+  pub method-0 : method ≡ 0 → {a : Answer} → a ≡ answerOf out (blockBy image idat iloc l) → a ≡ chosenAnswer
+  unfolding chosenBlock byMethod
   method-0 m e = rw (eq-eqb method 0 m) (rw (eq-eqb method 0 m) at e)
 
-  pub method-1 : method ≡ 1 → stored ≡ true → {a : Answer} → a ≡ answerOf out (blockBy image idat iloc l) → a ≡ answered
-  unfolding chosenBlock named storeOf
+  pub method-1 : method ≡ 1 → stored ≡ true → {a : Answer} → a ≡ answerOf out (blockBy image idat iloc l) → a ≡ chosenAnswer
+  unfolding chosenBlock byMethod storeOf
   method-1 m h e =
       let z : eqb method 0 ≡ false = rw m in
       rw (z, eq-eqb method 1 m, h) (rw z at e)
 
-  pub method-21 : method ≡ 1 → stored ≡ false → refusal 21 out ≡ answered
-  unfolding chosenBlock named storeOf answerOf answerWith
-  method-21 m h = rw (m, h)
+  pub method-21 : method ≡ 1 → stored ≡ false → refusal 21 out ≡ chosenAnswer
+  unfolding chosenBlock byMethod storeOf
+  method-21 m h = answer-refused 21 out (rw (m, h))
 
-  pub method-22 : method ≡ 2 → refusal 22 out ≡ answered
-  unfolding chosenBlock named answerOf answerWith
-  method-22 m = rw m
+  pub method-22 : method ≡ 2 → refusal 22 out ≡ chosenAnswer
+  unfolding chosenBlock byMethod
+  method-22 m = answer-refused 22 out (rw m)
 
-  pub method-23 : (method ≡ 0 → ⊥) → (method ≡ 1 → ⊥) → (method ≡ 2 → ⊥) → refusal 23 out ≡ answered
-  unfolding chosenBlock named answerOf answerWith
-  method-23 a b c = rw (ne-eqb method 0 a, ne-eqb method 1 b, ne-eqb method 2 c)
+  pub method-23 : (method ≡ 0 → ⊥) → (method ≡ 1 → ⊥) → (method ≡ 2 → ⊥) → refusal 23 out ≡ chosenAnswer
+  unfolding chosenBlock byMethod
+  method-23 a b c = answer-refused 23 out (rw (ne-eqb method 0 a, ne-eqb method 1 b, ne-eqb method 2 c))

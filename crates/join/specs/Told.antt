@@ -1,6 +1,5 @@
 -- What the answers say: document 01's number, or the values, of each case; and what the code's values stand for.
-use mathlib.Core.Path.{_≡_}
-use Prim.Native.Nat.{ℕ, _≤_}
+use Prim.Native.Nat.{ℕ}
 use mathlib.Core.List.{List}
 use lib.ListN.{length}
 use lib.Dec.{eqb}
@@ -9,7 +8,7 @@ use Rattle.rules.specs.Doc.Bytes.{Span}
 use Rattle.rules.specs.Doc.Iloc.{Extent}
 use Rattle.rules.specs.Doc.Join.{lies}
 use Rattle.rules.specs.Doc.Answers.{Answer}
-use Rattle.rules.specs.Laws.Gather.{gathered, blockFrom}
+use Rattle.rules.specs.OverBytes.{partOf, gathered, blockFrom}
 use Rattle.boxes.specs.Told.{number}
 use Rattle.locations.specs.Told.{locationIn, extentsOf}
 use Rattle.locations.specs.declared.Location.{Location}
@@ -42,6 +41,12 @@ told (e.Refused r) out = record { number = number r; length = 0; output = out }
 abbrev pub source : ℕ → List ℕ → List ℕ → List ℕ
 source method image idat = if eqb method 0 then image else idat
 
+-- the bytes of an extent, by the method and the base; none of a refused one
+abbrev pub partBy : ℕ → List ℕ → List ℕ → ℕ → Extent → List ℕ
+partBy method image idat base x =
+    let s = source method image idat in
+    partOf s (lies method (length s) base x)
+
 -- how its extents lie in n bytes
 abbrev pub liesBy : Location → ℕ → Extent → Outcome Span
 liesBy l n = lies (locationIn l .entry .method) n (locationIn l .entry .base)
@@ -57,7 +62,3 @@ abbrev pub blockBy : List ℕ → List ℕ → List ℕ → Location → Outcome
 blockBy image idat iloc l =
     let s = source (locationIn l .entry .method) image idat in
     blockFrom (liesBy l (length s)) s (extentsOf iloc l)
-
--- an extent that is not refused ends inside n bytes
-abbrev pub Ends : Outcome Span → ℕ → Type 0
-Ends o n = (p : Span) → o ≡ fine p → p .to ≤ n

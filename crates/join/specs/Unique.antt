@@ -8,7 +8,7 @@ use lib.Dec.{eqb}
 use borrow.Author.Tests.{ne-eqb}
 use Rattle.rules.specs.Doc.Outcomes.{if_then_else_}
 use Rattle.rules.specs.Doc.Answers.{Answer}
-use Rattle.rules.specs.Laws.Gather.{storeOf, itemBlock, answerOf}
+use Rattle.rules.specs.OverBytes.{storeOf, itemBlock, answerOf}
 use Rattle.rules.specs.Laws.Refusals.{item-block-numbered, room-length}
 use Rattle.boxes.specs.Told.{number}
 use Rattle.boxes.specs.Unique.{asRefusal, refusal-back, not-done}
@@ -34,8 +34,8 @@ output-told (NoRoom n) out = refl
 output-told (Refused e) out = refl
 
 -- an answer tells one outcome
-pub told-one : {a : Answer} → (a .number ≡ 28 → 0 < a .length) → (x y : Extracted) (after after′ : List ℕ) → told x after ≡ a → told y after′ ≡ a
-    → (x ≡ y) × (after ≡ after′)
+pub told-one : {a : Answer} → (a .number ≡ 28 → 0 < a .length) → (x y : Extracted) (after after′ : List ℕ)
+    → told x after ≡ a → told y after′ ≡ a → (x ≡ y) × (after ≡ after′)
 told-one {a} h x y after after′ e f = (
   sym (back x after e) ∙ ap asExtracted (e ∙ sym f) ∙ back y after′ f,
   sym (output-told x after) ∙ ap (λ (a : Answer). a .output) (e ∙ sym f) ∙ output-told y after′,
@@ -48,5 +48,6 @@ told-one {a} h x y after after′ e f = (
 pub item-one : (image idat : List ℕ) (stored : Bool) (iloc : List ℕ) (wanted : ℕ) (out : List ℕ) (x y : Extracted) (after after′ : List ℕ)
     → told x after ≡ answerOf out (itemBlock image (storeOf stored idat) iloc wanted)
     → told y after′ ≡ answerOf out (itemBlock image (storeOf stored idat) iloc wanted) → (x ≡ y) × (after ≡ after′)
+unfolding answerOf
 item-one image idat stored iloc wanted out x y after after′ e f =
-    told-one (room-length out _ (item-block-numbered image (storeOf stored idat) iloc wanted)) x y after after′ e f
+    told-one (room-length out _ _ (item-block-numbered image (storeOf stored idat) iloc wanted)) x y after after′ e f

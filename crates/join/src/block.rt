@@ -1,7 +1,7 @@
 // Step 10 and the room: the block, or why there is none.
 ghost use mathlib.Core.Path.{_≡_};
 ghost use lib.ListN.{length};
-ghost use Rattle.rules.specs.Laws.Gather.{storeOf, chosenBlock, itemBlock, answerOf};
+ghost use Rattle.rules.specs.OverBytes.{storeOf, chosenBlock, itemBlock, answerOf};
 ghost use Rattle.rules.specs.Laws.Entries.{Chose};
 ghost use Rattle.locations.specs.Told.{locationIn};
 ghost use Rattle.join.specs.Told.{told, source, blockBy};
@@ -39,7 +39,8 @@ fn extract_joined<'a>(
     out: &mut [u8],
 ) -> Extracted
     requires { ⌜ Chose (now iloc) (locationIn location) ⌝ }
-    ensures { λ r. ⌜ told r (now (out .exit)) ≡ answerOf (now (out .entry)) (blockBy (now (image .entry)) (now (idat .entry)) (now (iloc .entry)) location) ⌝ }
+    ensures { λ r. ⌜ told r (now (out .exit))
+        ≡ answerOf (now (out .entry)) (blockBy (now (image .entry)) (now (idat .entry)) (now (iloc .entry)) location) ⌝ }
 {
     let len = source_len(image, idat, location.entry.construction_method);
     match total_size(iloc, location, len) {
@@ -72,7 +73,9 @@ fn extract_chosen<'a>(
     out: &mut [u8],
 ) -> Extracted
     requires { ⌜ Chose (now iloc) (locationIn location) ⌝ }
-    ensures { λ r. ⌜ told r (now (out .exit)) ≡ answerOf (now (out .entry)) (chosenBlock (now (image .entry)) (storeOf stored (now (idat .entry))) (now (iloc .entry)) (locationIn location)) ⌝ }
+    ensures { λ r. ⌜ told r (now (out .exit))
+        ≡ answerOf (now (out .entry))
+        (chosenBlock (now (image .entry)) (storeOf stored (now (idat .entry))) (now (iloc .entry)) (locationIn location)) ⌝ }
 {
     let method = location.entry.construction_method;
     match method {
@@ -84,11 +87,12 @@ fn extract_chosen<'a>(
             extract_joined(image, idat, iloc, location, out)
         }
         2 => Extracted::Refused(Refusal::ByItemOffset),
+        // 3 to 15: the method is a half-byte.
         _ => Extracted::Refused(Refusal::UnknownMethod),
     }
 }
 
-// Steps 7 to 10: the block of the item goes to the front of `out`. `stored` says whether there is an `idat`.
+// The block of the item goes to the front of `out`. `stored` says whether there is an `idat`. For steps 7 and 8, `locations` is asked.
 pub fn extract_item<'a>(
     image: &'a [u8],
     idat: &'a [u8],
@@ -97,7 +101,8 @@ pub fn extract_item<'a>(
     item_id: u64,
     out: &mut [u8],
 ) -> Extracted
-    ensures { λ r. ⌜ told r (now (out .exit)) ≡ answerOf (now (out .entry)) (itemBlock (now (image .entry)) (storeOf stored (now (idat .entry))) (now (iloc .entry)) «item_id») ⌝ }
+    ensures { λ r. ⌜ told r (now (out .exit))
+        ≡ answerOf (now (out .entry)) (itemBlock (now (image .entry)) (storeOf stored (now (idat .entry))) (now (iloc .entry)) «item_id») ⌝ }
 {
     match locations::parse_iloc(iloc, item_id) {
         Iloc::Refused(e) => Extracted::Refused(e),

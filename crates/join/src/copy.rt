@@ -3,8 +3,8 @@ ghost use mathlib.Core.Path.{_≡_};
 ghost use Prim.Native.Nat.{ℕ};
 ghost use mathlib.Core.List.{List, _++_};
 ghost use lib.ListN.{drop};
+ghost use lib.Seq.{sets};
 ghost use Rattle.rules.specs.Doc.Bytes.{numberAt};
-ghost use Rattle.rules.specs.Laws.Over.{overAt};
 ghost use Rattle.rules.specs.Laws.Entries.{Chose};
 ghost use Rattle.locations.specs.Told.{locationIn};
 ghost use Rattle.join.specs.Told.{joinedOf};
@@ -12,10 +12,10 @@ use crate::minus;
 use crate::place::extent_part;
 use locations::Location;
 
-// Copies the bytes of `part` from `skip` on to `out` from `at` on, as many as there is room for, and answers the place after the last: whatever
-// goes on from there comes after those bytes.
+// Copies the bytes of `part` from `skip` on to `out` from `at` on, as many as there is room for, and answers the place after the last. Said
+// for whatever follows, so that a caller with several parts needs no sums of lengths.
 fn put(part: &[u8], skip: usize, out: &mut [u8], at: usize) -> usize
-    ensures { λ r. ⌜ ((rest : List ℕ) → overAt r rest (now (out .exit)) ≡ overAt at (drop skip (now (part .entry)) ++ rest) (now (out .entry))) ⌝ }
+    ensures { λ r. ⌜ ((rest : List ℕ) → sets (now (out .exit)) r rest ≡ sets (now (out .entry)) at (drop skip (now (part .entry)) ++ rest)) ⌝ }
 {
     let mut i = skip;
     let mut o = at;
@@ -40,7 +40,8 @@ pub(crate) fn gather<'a>(
     out: &mut [u8],
 )
     requires { ⌜ Chose (now iloc) (locationIn location) ⌝ }
-    ensures { λ _. ⌜ now (out .exit) ≡ overAt 0 (drop skip (joinedOf (now (image .entry)) (now (idat .entry)) (now (iloc .entry)) location)) (now (out .entry)) ⌝ }
+    ensures { λ _. ⌜ now (out .exit)
+        ≡ sets (now (out .entry)) 0 (drop skip (joinedOf (now (image .entry)) (now (idat .entry)) (now (iloc .entry)) location)) ⌝ }
 {
     let method = location.entry.construction_method;
     let base = location.entry.base_offset;

@@ -1,4 +1,4 @@
-// The block of an item, steps 9 and 10: where its extents lie, their total, their bytes, and the room. Steps 7 and 8 are in `locations`.
+// The block of an item, steps 9 and 10: where its extents lie, their total, their bytes, and the room. For 7 and 8, `locations` is asked.
 mod block;
 mod copy;
 mod place;

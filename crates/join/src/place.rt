@@ -3,9 +3,10 @@ ghost use mathlib.Core.Path.{_≡_};
 ghost use Prim.Native.Nat.{_+_, _^_, _<_};
 ghost use lib.ListN.{length};
 ghost use Rattle.rules.specs.Doc.Join.{inImage, inIdat, lies};
-ghost use Rattle.rules.specs.Laws.Gather.{partOf};
+ghost use Rattle.rules.specs.OverBytes.{partOf};
+ghost use Rattle.rules.specs.Laws.Places.{EndsIn};
 ghost use Rattle.locations.specs.Told.{extentIn};
-ghost use Rattle.join.specs.Told.{placeOf, source, Ends};
+ghost use Rattle.join.specs.Told.{placeOf, partBy};
 use crate::minus;
 use boxes::ADDRESS_MAX;
 use boxes::Refusal;
@@ -16,9 +17,6 @@ pub(crate) enum Place {
     Part { from: usize, to: usize },
     Refused(Refusal),
 }
-
-// The largest number of 64 bits.
-const MAX: u64 = 0xffff_ffff_ffff_ffff;
 
 // Method 0, in an image of `image_len` bytes.
 fn in_image(image_len: usize, base: u64, x: Extent) -> Place
@@ -51,7 +49,7 @@ fn in_idat(idat_len: usize, base: u64, x: Extent) -> Place
     ensures { λ r. ⌜ placeOf r ≡ inIdat «idat_len» base (extentIn x) ⌝ }
 {
     let offset = base + x.offset;
-    if MAX - offset < x.length {
+    if u64::MAX - offset < x.length {
         return Place::Refused(Refusal::InvalidLength);
     }
     let end = offset + x.length;
@@ -79,7 +77,7 @@ fn in_idat(idat_len: usize, base: u64, x: Extent) -> Place
 pub(crate) fn extent_place(method: u64, len: usize, base: u64, x: Extent) -> Place
     ensures { λ r. ⌜ placeOf r ≡ lies method len base (extentIn x) ⌝ }
 {
-    if MAX - base < x.offset {
+    if u64::MAX - base < x.offset {
         return Place::Refused(Refusal::InvalidOffset);
     }
     match method {
@@ -90,7 +88,7 @@ pub(crate) fn extent_place(method: u64, len: usize, base: u64, x: Extent) -> Pla
 
 // The bytes of a place in `s`; none of a refused one.
 fn part_at(s: &[u8], place: Place) -> &[u8]
-    requires { ⌜ Ends (placeOf place) (length (now s)) ⌝ }
+    requires { ⌜ EndsIn (length (now s)) (placeOf place) ⌝ }
     ensures { λ r. ⌜ now r ≡ partOf (now (s .entry)) (placeOf place) ⌝ }
 {
     match place {
@@ -112,7 +110,7 @@ pub(crate) fn extent_part<'a>(
     base: u64,
     x: Extent,
 ) -> &'a [u8]
-    ensures { λ r. ⌜ now r ≡ partOf (source method (now (image .entry)) (now (idat .entry))) (lies method (length (source method (now (image .entry)) (now (idat .entry)))) base (extentIn x)) ⌝ }
+    ensures { λ r. ⌜ now r ≡ partBy method (now (image .entry)) (now (idat .entry)) base (extentIn x) ⌝ }
 {
     match method {
         0 => part_at(image, extent_place(method, image.len(), base, x)),

@@ -1,7 +1,7 @@
 // Step 9's pass over all extents: each is checked, and the total with it. Nothing is written.
 ghost use mathlib.Core.Path.{_≡_};
 ghost use Prim.Native.Nat.{_≤_};
-ghost use Rattle.rules.specs.Laws.Gather.{added, totalFrom};
+ghost use Rattle.rules.specs.OverBytes.{added, totalFrom};
 ghost use Rattle.rules.specs.Laws.Entries.{Chose};
 ghost use Rattle.locations.specs.Told.{locationIn, extentsOf};
 ghost use Rattle.join.specs.Told.{placeOf, totalOf, liesBy};

@@ -1,4 +1,4 @@
 pub mod Told
-pub mod Rows
+pub mod Reads
 pub mod Located
 pub mod Unique

@@ -30,7 +30,13 @@ abbrev pub extentIn : Extent → doc.Extent
 extentIn x = record { offset = x .offset; length = x .length }
 
 abbrev pub entryIn : Entry → doc.Entry
-entryIn e = record { id = e .«item_id»; method = e .«construction_method»; base = e .«base_offset»; count = e .«extent_count»; from = e .«extents_at» }
+entryIn e = record {
+  id = e .«item_id»;
+  method = e .«construction_method»;
+  base = e .«base_offset»;
+  count = e .«extent_count»;
+  from = e .«extents_at»;
+}
 
 abbrev pub locationIn : Location → doc.Chosen
 locationIn l = record { sizes = sizesIn (l .sizes); entry = entryIn (l .entry) }
@@ -46,7 +52,13 @@ ilocOf (i.Refused e) = refused (number e)
 -- ---- Answers of private functions
 
 abbrev pub tableIn : Table → doc.Table
-tableIn t = record { version = t .version; sizes = sizesIn (t .sizes); baseSize = t .«base_offset_size»; count = t .«item_count»; from = t .«items_at» }
+tableIn t = record {
+  version = t .version;
+  sizes = sizesIn (t .sizes);
+  baseSize = t .«base_offset_size»;
+  count = t .«item_count»;
+  from = t .«items_at»;
+}
 
 abbrev pub headOf : Head → Outcome doc.Table
 headOf (h.Read t) = fine (tableIn t)
@@ -66,5 +78,5 @@ pastOf (q.Refused e) = refused (number e)
 
 -- the last wanted entry so far
 abbrev pub lastIn : Last → Option doc.Entry
-lastIn l.Nothing = none
+lastIn l.Unset = none
 lastIn (l.Wanted e) = some (entryIn e)

@@ -8,7 +8,7 @@ ghost use Rattle.rules.specs.Laws.Extents.{Small};
 ghost use Rattle.rules.specs.Laws.Entries.{EntryIn};
 ghost use Rattle.boxes.specs.Told.{fieldOf};
 ghost use Rattle.locations.specs.Told.{tableIn, entryIn, parsedOf, pastOf};
-ghost use Rattle.locations.specs.Rows.{based, skipped};
+ghost use Rattle.locations.specs.Reads.{based, skipped};
 use crate::extent;
 use crate::extent::Read;
 use crate::table;

@@ -34,7 +34,7 @@ pub enum Iloc {
 
 // The last wanted entry so far.
 enum Last {
-    Nothing,
+    Unset,
     Wanted(Entry),
 }
 
@@ -46,7 +46,7 @@ impl Last {
         if entry.item_id == item_id {
             return Last::Wanted(entry);
         }
-        Last::Nothing
+        Last::Unset
     }
 
     // This one, or else the other.
@@ -54,7 +54,7 @@ impl Last {
         ensures { λ r. ⌜ lastIn r ≡ orElse (lastIn self) (lastIn other) ⌝ }
     {
         match self {
-            Last::Nothing => other,
+            Last::Unset => other,
             Last::Wanted(entry) => Last::Wanted(entry),
         }
     }
@@ -67,7 +67,7 @@ fn parse_entries(body: &[u8], table: Table, item_id: u64) -> Iloc
 {
     let sizes = table.sizes;
     let mut at = table.items_at;
-    let mut last = Last::Nothing;
+    let mut last = Last::Unset;
     for _ in 0..table.item_count {
         let entry = match entry::parse_entry(body, table, at) {
             Parsed::Refused(e) => return Iloc::Refused(e),
@@ -81,7 +81,7 @@ fn parse_entries(body: &[u8], table: Table, item_id: u64) -> Iloc
         last = wanted.or(last);
     }
     match last {
-        Last::Nothing => Iloc::Refused(Refusal::NoMatchingEntry),
+        Last::Unset => Iloc::Refused(Refusal::NoMatchingEntry),
         Last::Wanted(entry) => Iloc::Found(Location {
             sizes: sizes,
             entry: entry,
@@ -99,7 +99,8 @@ pub fn parse_iloc(body: &[u8], item_id: u64) -> Iloc
     }
 }
 
-// Extent `k` of an item that was located in this body, read again.
+// Extent `k` of an item that was located in this body, read again. The contract speaks of what is left, as a loop over the extents needs it:
+// what is left at k is this one and what is left at k + 1.
 pub fn read_extent(body: &[u8], location: Location, k: u64) -> Extent
     requires { ⌜ Chose (now body) (locationIn location) ⌝ }
     requires { ⌜ k < location .entry .«extent_count» ⌝ }

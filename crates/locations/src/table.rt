@@ -5,7 +5,7 @@ ghost use Rattle.rules.specs.Doc.Bytes.{field};
 ghost use Rattle.rules.specs.Doc.Iloc.{idSize, sizesOf, tableOf};
 ghost use Rattle.boxes.specs.Told.{fieldOf};
 ghost use Rattle.locations.specs.Told.{headOf};
-ghost use Rattle.locations.specs.Rows.{counted};
+ghost use Rattle.locations.specs.Reads.{tableFrom};
 use crate::extent::Sizes;
 use boxes::Number;
 use boxes::Refusal;
@@ -56,7 +56,7 @@ fn index_size(version: u64, halves: u64) -> usize
 
 // The count of entries ends the head.
 fn parse_count(body: &[u8], version: u64, halves: u64) -> Head
-    ensures { λ r. ⌜ headOf r ≡ counted (now (body .entry)) version halves ⌝ }
+    ensures { λ r. ⌜ headOf r ≡ tableFrom (now (body .entry)) version halves ⌝ }
 {
     match parse_id(body, 6, version) {
         Number::Refused(e) => Head::Refused(e),

@@ -9,7 +9,7 @@ use Rattle.rules.specs.Doc.Meta.{openedIn, opened, metaTest}
 use Rattle.rules.specs.Doc.Children.{metaLevel, children, bodyIn, lastBody, allItems, wantedItem, keptIn, kept}
 use Rattle.rules.specs.Doc.Iinf.{itemIdSize, item, itemTest, isExif, countSize, infoCount, infoLevel, infos, infoTest, infoBoxes, itemIn, items}
 use Rattle.rules.specs.Doc.Iloc.{idSize, sizesOf, baseSizeOf, tableOf, methodSize, inFile, entryAt, extentWidth, extentAt, extentMet, extents, isWanted, entryEnd, extentsTest, entryNext, entryMet, entries, chosenIn, chosen}
-use Rattle.rules.specs.Doc.Join.{moved, movedOption, planOf, plan, sourceOf, reach, inImage, inIdat, lies, counted, placed, join, positionsIn, joinedIn, joinedBy, joinedFrom, joined}
+use Rattle.rules.specs.Doc.Join.{moved, movedOption, planOf, plan, byMethod, sourceOf, reach, inImage, inIdat, lies, counted, placed, join, positionsIn, joinedIn, joinedBy, joinedFrom, joined}
 use Rattle.rules.specs.Doc.Block.{bytesAt, firstFour, blockAfter, blockIn, block}
 use Rattle.rules.specs.Doc.Heif.{heifLevel, isHeif}
 use Rattle.rules.specs.Doc.Answers.{handed, answerWith, answer}
@@ -22,7 +22,7 @@ unfolding handed answerWith answer bytesAt firstFour blockAfter blockIn block nu
     brandsFrom brandTest topFits topLevel top stopped headerOf headerAt bodySize boxWith whole skips announced boxAt childAt fileBoxAt
     heifLevel isHeif itemIdSize item itemTest isExif countSize infoCount infoLevel infos infoTest infoBoxes itemIn items idSize
     sizesOf baseSizeOf tableOf methodSize inFile entryAt extentWidth extentAt extentMet extents isWanted entryEnd extentsTest
-    entryNext entryMet entries chosenIn chosen moved movedOption planOf plan sourceOf reach inImage inIdat lies counted placed join
+    entryNext entryMet entries chosenIn chosen moved movedOption planOf plan byMethod sourceOf reach inImage inIdat lies counted placed join
     positionsIn joinedIn joinedBy joinedFrom joined tested said decided boxStep levelStep boxes countedBoxes inside any only lastOf
     each openedIn opened metaTest isFine once bare walked judged after run outcome
 document = tt

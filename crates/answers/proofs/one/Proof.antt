@@ -1,5 +1,6 @@
--- Both tests on the lengths come before the parts of the two buffers are lent.
+-- Both lengths are tested before the parts of the two buffers are lent; the second test of a `||` comes as an equation of its flag.
 use borrow.Author.Needs.{needs}
+use borrow.Author.Tests.{ltb-false}
 use Rattle.answers.specs.Parts.{first}
 use Rattle.answers.proofs.one.Statement.{statement}
 use Rattle.answers.proofs.one.Tie as tie
@@ -55,18 +56,6 @@ same-length-2 c = search needs
 returns-3 : tie.Need-returns-3
 returns-3 c = search needs
 
-slice-aggregate-stop-3 : tie.Need-slice-aggregate-stop-3
-slice-aggregate-stop-3 c = search needs
-
-stop-requires-3 : tie.Need-stop-requires-3
-stop-requires-3 c κs = search needs
-
-same-length-3 : tie.Need-same-length-3
-same-length-3 c = search needs
-
-returns-4 : tie.Need-returns-4
-returns-4 c = search needs
-
 slice-relend-prefix-whole : tie.Need-slice-relend-prefix-whole
 slice-relend-prefix-whole c = search needs
 
@@ -77,10 +66,13 @@ slice-relend-prefix-whole-2 : tie.Need-slice-relend-prefix-whole-2
 slice-relend-prefix-whole-2 c = search needs
 
 slice-aggregate-whole-2 : tie.Need-slice-aggregate-whole-2
-slice-aggregate-whole-2 c = search first
+slice-aggregate-whole-2 c = search (first, ltb-false)
 
 whole-requires : tie.Need-whole-requires
 whole-requires c κs = search needs
+
+same-length-3 : tie.Need-same-length-3
+same-length-3 c = search needs
 
 same-length-4 : tie.Need-same-length-4
 same-length-4 c = search needs
@@ -88,11 +80,8 @@ same-length-4 c = search needs
 same-length-5 : tie.Need-same-length-5
 same-length-5 c = search needs
 
-same-length-6 : tie.Need-same-length-6
-same-length-6 c = search needs
-
-returns-5 : tie.Need-returns-5
-returns-5 c = search needs
+returns-4 : tie.Need-returns-4
+returns-4 c = search needs
 
 pub one-spec : {M : Type 1} → statement M
 one-spec =
@@ -115,16 +104,12 @@ one-spec =
     stop-requires-2
     same-length-2
     returns-3
-    slice-aggregate-stop-3
-    stop-requires-3
-    same-length-3
-    returns-4
     slice-relend-prefix-whole
     slice-aggregate-whole
     slice-relend-prefix-whole-2
     slice-aggregate-whole-2
     whole-requires
+    same-length-3
     same-length-4
     same-length-5
-    same-length-6
-    returns-5)
+    returns-4)

@@ -1,8 +1,6 @@
-use mathlib.Core.Path.{sym, ap}
+-- What is lent to `extract_item` are parts that lie inside, by what `parse_meta` found; each answer by its law in Whole.
 use native.Mathlib.Omega.{arith}
-use Rattle.rules.specs.Laws.Lies.{iloc-lies, idat-lies}
-use Rattle.isobmff.specs.Told.{lastOf}
-use Rattle.isobmff.specs.Whole.{meta-refused, without-idat, with-idat}
+use Rattle.isobmff.specs.Whole.{meta-refused, iloc-inside, idat-inside, without-idat, with-idat}
 use borrow.Author.Needs.{needs}
 use Rattle.isobmff.proofs.from_meta.Statement.{statement}
 use Rattle.isobmff.proofs.from_meta.Tie as tie
@@ -16,6 +14,15 @@ enum-known-e c = search needs
 enum-known-item-id : tie.Need-enum-known-item-id
 enum-known-item-id c = search needs
 
+sub-iloc : tie.Need-sub-iloc
+sub-iloc c = iloc-inside _ (c .before .before .before .parse-meta .ensures) (c .before .item-id .given .1) .order
+
+part-iloc-start : tie.Need-part-iloc-start
+part-iloc-start c = omega (arith, iloc-inside _ (c .before .before .before .parse-meta .ensures) (c .before .item-id .given .1) .order)
+
+part-iloc-end : tie.Need-part-iloc-end
+part-iloc-end c = iloc-inside _ (c .before .before .before .parse-meta .ensures) (c .before .item-id .given .1) .inner
+
 enum-told : tie.Need-enum-told
 enum-told c = search needs
 
@@ -28,44 +35,32 @@ part-extract-item-start c = search needs
 part-extract-item-end : tie.Need-part-extract-item-end
 part-extract-item-end c = search needs
 
-sub-extract-item-2 : tie.Need-sub-extract-item-2
-sub-extract-item-2 c = iloc-lies _ _ (sym (rw (c .before .before .before .before .item-id .given .1) at (c .before .before .before .before .before .before .parse-meta .ensures))) .order
-
-part-extract-item-start-2 : tie.Need-part-extract-item-start-2
-part-extract-item-start-2 c =
-    let i = iloc-lies _ _ (sym (rw (c .before .before .before .before .item-id .given .1) at (c .before .before .before .before .before .before .parse-meta .ensures))) in
-    omega (arith, i .order)
-
-part-extract-item-end-2 : tie.Need-part-extract-item-end-2
-part-extract-item-end-2 c = iloc-lies _ _ (sym (rw (c .before .before .before .before .item-id .given .1) at (c .before .before .before .before .before .before .parse-meta .ensures))) .inner
-
 extract-item-requires : tie.Need-extract-item-requires
 extract-item-requires c κs = search needs
 
 enum-known-idat : tie.Need-enum-known-idat
 enum-known-idat c = search needs
 
-sub-extract-item-3 : tie.Need-sub-extract-item-3
-sub-extract-item-3 c = idat-lies _ _ _ (sym (rw (c .before .before .before .before .item-id .given .1) at (c .before .before .before .before .before .before .parse-meta .ensures))) (ap lastOf (c .before .idat .given .1)) .order
+sub-extract-item-2 : tie.Need-sub-extract-item-2
+sub-extract-item-2 c =
+    let idat = c .before in
+    let found = idat .before .before .before .before in
+    let kept = found .before .before in
+    idat-inside _ (kept .parse-meta .ensures) (found .item-id .given .1) (idat .idat .given .1) .order
 
-part-extract-item-start-3 : tie.Need-part-extract-item-start-3
-part-extract-item-start-3 c =
-    let i = idat-lies _ _ _ (sym (rw (c .before .before .before .before .item-id .given .1) at (c .before .before .before .before .before .before .parse-meta .ensures))) (ap lastOf (c .before .idat .given .1)) in
-    omega (arith, i .order)
+part-extract-item-start-2 : tie.Need-part-extract-item-start-2
+part-extract-item-start-2 c =
+    let idat = c .before in
+    let found = idat .before .before .before .before in
+    let kept = found .before .before in
+    omega (arith, idat-inside _ (kept .parse-meta .ensures) (found .item-id .given .1) (idat .idat .given .1) .order)
 
-part-extract-item-end-3 : tie.Need-part-extract-item-end-3
-part-extract-item-end-3 c = idat-lies _ _ _ (sym (rw (c .before .before .before .before .item-id .given .1) at (c .before .before .before .before .before .before .parse-meta .ensures))) (ap lastOf (c .before .idat .given .1)) .inner
-
-sub-extract-item-4 : tie.Need-sub-extract-item-4
-sub-extract-item-4 c = iloc-lies _ _ (sym (rw (c .before .before .before .before .before .item-id .given .1) at (c .before .before .before .before .before .before .before .parse-meta .ensures))) .order
-
-part-extract-item-start-4 : tie.Need-part-extract-item-start-4
-part-extract-item-start-4 c =
-    let i = iloc-lies _ _ (sym (rw (c .before .before .before .before .before .item-id .given .1) at (c .before .before .before .before .before .before .before .parse-meta .ensures))) in
-    omega (arith, i .order)
-
-part-extract-item-end-4 : tie.Need-part-extract-item-end-4
-part-extract-item-end-4 c = iloc-lies _ _ (sym (rw (c .before .before .before .before .before .item-id .given .1) at (c .before .before .before .before .before .before .before .parse-meta .ensures))) .inner
+part-extract-item-end-2 : tie.Need-part-extract-item-end-2
+part-extract-item-end-2 c =
+    let idat = c .before in
+    let found = idat .before .before .before .before in
+    let kept = found .before .before in
+    idat-inside _ (kept .parse-meta .ensures) (found .item-id .given .1) (idat .idat .given .1) .inner
 
 extract-item-requires-2 : tie.Need-extract-item-requires-2
 extract-item-requires-2 c κs = search needs
@@ -77,13 +72,23 @@ same-length : tie.Need-same-length
 same-length c = search needs
 
 returns-2 : tie.Need-returns-2
-returns-2 c = without-idat _ _ _ _ (rw (c .before .before .before .before .before .before .before .before .before .item-id .given .1) at (c .before .before .before .before .before .before .before .before .before .before .before .parse-meta .ensures)) _ (rw (c .before .before .before .before .before .before .enum-told .given .1)) (c .before .before .extract-item .ensures)
+returns-2 c =
+    let given = c .before .before in
+    let none = given .before .before .before in
+    let found = none .before .before .before .before in
+    let kept = found .before .before in
+    without-idat _ (kept .parse-meta .ensures) (found .item-id .given .1) _ _ _ (none .enum-told .given .1) (given .extract-item .ensures)
 
 same-length-2 : tie.Need-same-length-2
 same-length-2 c = search needs
 
 returns-3 : tie.Need-returns-3
-returns-3 c = with-idat _ _ _ _ (rw (c .before .before .before .before .before .before .before .before .before .before .item-id .given .1) at (c .before .before .before .before .before .before .before .before .before .before .before .before .parse-meta .ensures)) (ap lastOf (c .before .before .before .before .before .before .before .idat .given .1)) (c .before .before .extract-item2 .ensures)
+returns-3 c =
+    let given = c .before .before in
+    let idat = given .before .before .before .before in
+    let found = idat .before .before .before .before in
+    let kept = found .before .before in
+    with-idat _ (kept .parse-meta .ensures) (found .item-id .given .1) _ _ (idat .idat .given .1) (given .extract-item2 .ensures)
 
 pub from-meta-spec : {M : Type 1} → statement M
 from-meta-spec =
@@ -92,21 +97,18 @@ from-meta-spec =
     parse-meta-requires
     enum-known-e
     enum-known-item-id
+    sub-iloc
+    part-iloc-start
+    part-iloc-end
     enum-told
     sub-extract-item
     part-extract-item-start
     part-extract-item-end
+    extract-item-requires
+    enum-known-idat
     sub-extract-item-2
     part-extract-item-start-2
     part-extract-item-end-2
-    extract-item-requires
-    enum-known-idat
-    sub-extract-item-3
-    part-extract-item-start-3
-    part-extract-item-end-3
-    sub-extract-item-4
-    part-extract-item-start-4
-    part-extract-item-end-4
     extract-item-requires-2
     returns
     same-length

@@ -1,3 +1,4 @@
+-- A refusal of the top level is the answer; else the body of `meta` is a part of the image, and what it gives is the answer (Whole).
 use native.Mathlib.Omega.{arith}
 use Rattle.isobmff.specs.Whole.{meta-inside, image-refused, image-opened}
 use borrow.Author.Needs.{needs}
@@ -34,7 +35,11 @@ same-length : tie.Need-same-length
 same-length c = search needs
 
 returns-2 : tie.Need-returns-2
-returns-2 c = image-opened _ _ (rw (c .before .before .before .before .before .before .from .given .1) at (c .before .before .before .before .before .before .before .before .parse .ensures)) (c .before .before .from-meta .ensures)
+returns-2 c =
+    let from′ = c .before .before in
+    let f = from′ .before .before .before .before in
+    let parse = f .before .before in
+    image-opened _ _ (rw (f .from .given .1) at (parse .parse .ensures)) (from′ .from-meta .ensures)
 
 pub get-exif-attr-spec : {M : Type 1} → statement M
 get-exif-attr-spec =

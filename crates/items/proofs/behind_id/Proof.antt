@@ -1,7 +1,5 @@
 -- Read after read: what each says is the next step of the definition.
-use borrow.Author.Tests.{ne-eqb}
-use Rattle.rules.specs.Doc.Iinf.{isExif}
-use Rattle.items.specs.Wanted.{behindId}
+use Rattle.items.specs.Wanted.{id-refused, two-refused, type-refused, type-exif, type-other}
 use borrow.Author.Needs.{needs}
 use Rattle.items.proofs.behind_id.Statement.{statement}
 use Rattle.items.proofs.behind_id.Tie as tie
@@ -34,42 +32,19 @@ enum-known-kind : tie.Need-enum-known-kind
 enum-known-kind c = search needs
 
 returns : tie.Need-returns
-unfolding behindId
-returns c = rw (c .before .id .given .1)
+returns c = search id-refused
 
 returns-2 : tie.Need-returns-2
-unfolding behindId
-returns-2 c =
-    let id = c .before .before .before .before .before .id2 .given .1 in
-    let two = rw (c .before .e .given .1) at (c .before .before .before .uint16 .ensures) in
-    rw (id, ← two)
+returns-2 c = search two-refused
 
 returns-3 : tie.Need-returns-3
-unfolding behindId
-returns-3 c =
-    let u = c .before .before .before in
-    let id = u .before .before .before .before .before .id2 .given .1 in
-    let two = rw (u .before .enum-told .given .1) at (u .before .before .before .uint16 .ensures) in
-    let kind = rw (c .before .e2 .given .1) at (u .uint32 .ensures) in
-    rw (id, ← two, ← kind)
+returns-3 c = search type-refused
 
 returns-4 : tie.Need-returns-4
-unfolding behindId isExif
-returns-4 c =
-    let u = c .before .before .before .before in
-    let id = u .before .before .before .before .before .id2 .given .1 in
-    let two = rw (u .before .enum-told .given .1) at (u .before .before .before .uint16 .ensures) in
-    let kind = rw (c .before .before .kind .given .1) at (u .uint32 .ensures) in
-    rw (id, ← two, ← kind, c .match4 .keys1)
+returns-4 c = search type-exif
 
 returns-5 : tie.Need-returns-5
-unfolding behindId isExif
-returns-5 c =
-    let u = c .before .before .before .before in
-    let id = u .before .before .before .before .before .id2 .given .1 in
-    let two = rw (u .before .enum-told .given .1) at (u .before .before .before .uint16 .ensures) in
-    let kind = rw (c .before .before .kind .given .1) at (u .uint32 .ensures) in
-    rw (id, ← two, ← kind, ne-eqb _ _ (c .match4 .rest .1))
+returns-5 c = search type-other
 
 pub behind-id-spec : {M : Type 1} → statement M
 behind-id-spec =

@@ -66,8 +66,9 @@ returns-2 c =
     let k = c .before .before .before .before .before .before in
     let b = rw (k .kind .given .1) at (k .before .before .child-box .ensures) in
     let o = rw (c .before .e2 .given .1) at (c .before .before .before .entry .ensures) in
-    let all = k .before .before .before .before .before .before .count2 .given .1 in
-    rw all (entries-read _ _ _ _ _ (k .before .before .before .before .loop .inv .1) (k .before .before .before .loop-test .taken) b o)
+    let l = k .before .before .before in
+    let all = l .before .before .before .count2 .given .1 in
+    rw all (entries-read _ _ _ _ _ (l .before .loop .inv .1) (l .loop-test .taken) b o)
 
 enum-known-id : tie.Need-enum-known-id Inv-loop μ-loop
 enum-known-id c = search needs
@@ -83,7 +84,8 @@ loop-again c =
     let k = c .before .before .before .before .before .before in
     let b = rw (k .kind .given .1) at (k .before .before .child-box .ensures) in
     let o = rw (c .before .id .given .1) at (c .before .before .before .entry .ensures) in
-    (omega arith, entries-read _ _ _ _ _ (k .before .before .before .before .loop .inv .1) (k .before .before .before .loop-test .taken) b o)
+    let l = k .before .before .before in
+    (omega arith, entries-read _ _ _ _ _ (l .before .loop .inv .1) (l .loop-test .taken) b o)
 
 returns-3 : tie.Need-returns-3 Inv-loop μ-loop
 unfolding countOver

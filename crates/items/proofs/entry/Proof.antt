@@ -1,3 +1,4 @@
+-- An `infe` is what `parse_infe` says of it; another type leaves what was wanted.
 use borrow.Author.Tests.{ne-eqb}
 use Rattle.items.specs.Wanted.{entryOver}
 use borrow.Author.Needs.{needs}

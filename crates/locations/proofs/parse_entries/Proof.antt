@@ -37,14 +37,16 @@ enum-known-x c = search needs
 past-extents-requires : tie.Need-past-extents-requires Inv-loop μ-loop
 past-extents-requires c κs =
     let read = rw (c .before .x .given .1) at (c .before .before .before .parse-entry .ensures) in
-    (c .before .before .before .before .before .before .before .before .pre, entry-in _ _ _ (c .before .before .before .before .before .before .before .shared-slice-known .given) read)
+    let k = c .before .before .before .before .before .before .before in
+    (k .before .pre, entry-in _ _ _ (k .shared-slice-known .given) read)
 
 enum-known-e-2 : tie.Need-enum-known-e-2 Inv-loop μ-loop
 enum-known-e-2 c = search needs
 
 returns-2 : tie.Need-returns-2 Inv-loop μ-loop
 returns-2 c =
-    let read = rw (c .before .before .before .before .before .x .given .1) at (c .before .before .before .before .before .before .before .parse-entry .ensures) in
+    let k = c .before .before .before .before .before in
+    let read = rw (k .x .given .1) at (k .before .before .parse-entry .ensures) in
     let past = rw (c .before .e2 .given .1) at (c .before .before .before .past-extents .ensures) in
     search extents-refused
 
@@ -65,8 +67,10 @@ loop-less c = search needs
 
 loop-again : tie.Need-loop-again Inv-loop μ-loop
 loop-again c =
-    let read = rw (c .before .before .before .before .before .before .before .x .given .1) at (c .before .before .before .before .before .before .before .before .before .parse-entry .ensures) in
-    let past = rw (c .before .before .before .next .given .1) at (c .before .before .before .before .before .past-extents .ensures) in
+    let p = c .before .before .before in
+    let k = p .before .before .before .before in
+    let read = rw (k .x .given .1) at (k .before .before .parse-entry .ensures) in
+    let past = rw (p .next .given .1) at (p .before .before .past-extents .ensures) in
     (omega arith, search entry-passed)
 
 enum-told : tie.Need-enum-told Inv-loop μ-loop
@@ -76,10 +80,14 @@ enum-known-last : tie.Need-enum-known-last Inv-loop μ-loop
 enum-known-last c = search needs
 
 returns-3 : tie.Need-returns-3 Inv-loop μ-loop
-returns-3 c = rw (c .enum-told .given .1) at (entries-end _ _ _ _ _ _ _ (c .before .before .before .loop .inv .1) (c .before .before .loop-test .left))
+returns-3 c =
+    let k = c .before .before in
+    rw (c .enum-told .given .1) at (entries-end _ _ _ _ _ _ _ (k .before .loop .inv .1) (k .loop-test .left))
 
 returns-4 : tie.Need-returns-4 Inv-loop μ-loop
-returns-4 c = rw (c .before .last .given .1) at (entries-end _ _ _ _ _ _ _ (c .before .before .before .before .loop .inv .1) (c .before .before .before .loop-test .left))
+returns-4 c =
+    let k = c .before .before .before in
+    rw (c .before .last .given .1) at (entries-end _ _ _ _ _ _ _ (k .before .loop .inv .1) (k .loop-test .left))
 
 pub parse-entries-spec : {M : Type 1} → statement M
 parse-entries-spec =

@@ -10,22 +10,26 @@ extent-size-requires c κs = judged-small (chose-kth _ _ (c .before .before .pre
 
 mul-at : tie.Need-mul-at
 mul-at c =
-    let i = chose-kth _ _ (c .before .before .before .pre .0) _ (c .before .before .before .pre .1) .inside in
+    let k = c .before .before .before in
+    let i = chose-kth _ _ (k .pre .0) _ (k .pre .1) .inside in
     rw (c .extent-size .ensures .0) (omega arith)
 
 add-at : tie.Need-add-at
 add-at c =
-    let i = chose-kth _ _ (c .before .before .before .before .pre .0) _ (c .before .before .before .before .pre .1) .inside in
+    let k = c .before .before .before .before in
+    let i = chose-kth _ _ (k .pre .0) _ (k .pre .1) .inside in
     rw (c .before .extent-size .ensures .0) (omega arith)
 
 extent-here-requires : tie.Need-extent-here-requires
 extent-here-requires c κs =
-    let i = chose-kth _ _ (c .before .before .before .before .pre .0) _ (c .before .before .before .before .pre .1) in
+    let k = c .before .before .before .before in
+    let i = chose-kth _ _ (k .pre .0) _ (k .pre .1) in
     rw (c .before .extent-size .ensures .0) (i .sizes, i .inside)
 
 returns : tie.Need-returns
 returns c =
-    let i = chose-kth _ _ (c .before .before .before .before .before .pre .0) _ (c .before .before .before .before .before .pre .1) in
+    let k = c .before .before .before .before .before in
+    let i = chose-kth _ _ (k .pre .0) _ (k .pre .1) in
     rw (c .extent-here .ensures, c .before .before .extent-size .ensures .0) (i .here)
 
 pub read-extent-spec : {M : Type 1} → statement M

@@ -13,7 +13,7 @@ use Rattle.rules.specs.Doc.Outcomes.{if_then_else_, Outcome, fine, refus
 use Rattle.rules.specs.Doc.Bytes.{byteAt}
 use Rattle.rules.specs.Doc.Block.{bytesAt, block}
 use Rattle.rules.specs.Doc.Answers.{Answer, handed, answerWith, answer}
-use Rattle.rules.specs.Laws.Refusals.{Numbered, block-numbered, not-given}
+use Rattle.rules.specs.Laws.Refusals.{Numbered, block-numbered, not-given, room-length}
 
 -- there is a block, and it is longer than the buffer
 pub record Longer (img out : List ℕ) : Type 0 where
@@ -71,11 +71,10 @@ module _ (img out : List ℕ) where
   unfolding answerBy answerWith
   room-then l = rw (answer-by (fine (l .positions)) (l .is-block), lt-leb (length (l .positions)) (length out) (l .longer))
 
-  -- 28 carries the length that is needed, which is not 0
-  pub room-length : answer img out .number ≡ 28 → 0 < answer img out .length
-  room-length h =
-      let l = room-only-then h in
-      omega (arith, length-said (l .is-block), l .longer)
+  -- 28 carries the length that is needed
+  pub needs-length : answer img out .number ≡ 28 → 0 < answer img out .length
+  unfolding answer
+  needs-length h = room-length out _ (block img) (block-numbered img) h
 
   -- what is put in front of the output: the block, if there is room
   unfoldable front : List ℕ → Bool → List ℕ

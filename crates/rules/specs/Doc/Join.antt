@@ -44,13 +44,17 @@ plan origin body = kept body >>= planOf origin body
 
 -- ---- The method
 
--- Method 0 joins extents of the image, method 1 of `idat` (none: 21, even without extents), 2 is 22, 3 to 15 are 23.
-unfoldable pub sourceOf : ℕ → Option Span → ℕ → Outcome Span
-sourceOf n store method =
-    if eqb method 0 then fine (record { from = 0; to = n })
+-- Method 0 names the image, method 1 `idat` (none: 21, even without extents), 2 is 22, 3 to 15 are 23.
+unfoldable pub byMethod : {A : Type 0} → A → Option A → ℕ → Outcome A
+byMethod image store method =
+    if eqb method 0 then fine image
     else if eqb method 1 then given store 21
     else if eqb method 2 then refused 22
     else refused 23
+
+-- Method 0 joins extents of the image, method 1 of `idat`.
+unfoldable pub sourceOf : ℕ → Option Span → ℕ → Outcome Span
+sourceOf n store method = byMethod (record { from = 0; to = n }) store method
 
 -- ---- One extent
 

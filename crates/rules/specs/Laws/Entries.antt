@@ -12,7 +12,7 @@ use Rattle.rules.specs.Doc.Outcomes.{if_then_else_, Outcome, fine, refus
 use Rattle.rules.specs.Doc.Lists.{only, lastOf}
 use Rattle.rules.specs.Doc.Bytes.{field, sized, version}
 use Rattle.rules.specs.Doc.Walks.{onward, Walk, bare, walked, judged, after, run, outcome}
-use Rattle.rules.specs.Doc.Iloc.{Table, idSize, sizesOf, baseSizeOf, tableOf, methodSize, inFile, Entry, entryAt}
+use Rattle.rules.specs.Doc.Iloc.{Sizes, Table, idSize, sizesOf, baseSizeOf, tableOf, methodSize, inFile, Entry, entryAt}
 use Rattle.rules.specs.Doc.Iloc.{extents, isWanted, entryEnd, extentsTest, entryNext, entryMet, entries, Chosen, chosenIn, chosen}
 use Rattle.rules.specs.Laws.Rows.{apart, bind-fine, bind-cong}
 use Rattle.rules.specs.Laws.Numbers.{Bytes, number-below}
@@ -24,18 +24,16 @@ use Rattle.rules.specs.Laws.Extents.{Small, Kth, extents-length, extents
 
 -- ---- Entries
 
--- an entry that was read, with extents that are not refused
-record Passed (t : Table) (body : List ℕ) (e : Entry) : Type 0 where
-  at : ℕ
-  read : fine e ≡ entryAt t body at
-  whole : fine tt ≡ outcome (extents (t .sizes) body e .end)
+-- the extents of an entry are not refused
+abbrev Passed : Sizes → List ℕ → Entry → Type 0
+Passed z body e = fine tt ≡ outcome (extents z body e .end)
 
 -- an entry, if it is of the wanted id
 abbrev pub ifWanted : ℕ → Entry → Option Entry
 ifWanted wanted e = if isWanted wanted e then some e else none
 
 -- None is 17.
-abbrev pub asChosen : Table → Option Entry → Outcome Chosen
+abbrev asChosen : Table → Option Entry → Outcome Chosen
 asChosen t o = given o 17 >>= λ e. fine (record { sizes = t .sizes; entry = e })
 
 module _ (t : Table) (body : List ℕ) (wanted : ℕ) where
@@ -43,48 +41,49 @@ module _ (t : Table) (body : List ℕ) (wanted : ℕ) where
   from n at = run (λ at. entryMet t body wanted (entryAt t body at)) n at
 
   -- what comes of a walk over entries, where `o` is the last wanted one before them
-  abbrev closed : Option Entry → Walk Entry → Outcome Chosen
-  closed o w = outcome (w .end) >>= λ u. asChosen t (folded (keep (isWanted wanted) (λ e. e)) o (w .list))
+  abbrev chosenBy : Option Entry → Walk Entry → Outcome Chosen
+  chosenBy o w = outcome (w .end) >>= λ u. asChosen t (folded (keep (isWanted wanted) (λ e. e)) o (w .list))
 
   -- the same of n entries from a position on
   unfoldable pub chosenFrom : Option Entry → ℕ → ℕ → Outcome Chosen
-  chosenFrom o n at = closed o (from n at)
+  chosenFrom o n at = chosenBy o (from n at)
 
   pub chosen-all : chosenFrom none (t .count) (t .from) ≡ chosenIn t body wanted
   unfolding chosenFrom chosenIn entries
   chosen-all =
       let w = entries t body wanted in
-      bind-cong (outcome (w .end)) (λ u. ap (asChosen t) (kept-last (isWanted wanted) (λ e. e) (w .list) ∙ mapped-same (lastOf (only (isWanted wanted) (w .list)))))
+      let last = lastOf (only (isWanted wanted) (w .list)) in
+      bind-cong (outcome (w .end)) (λ u. ap (asChosen t) (kept-last (isWanted wanted) (λ e. e) (w .list) ∙ mapped-same last))
 
   chosen-done : (o : Option Entry) (at : ℕ) → chosenFrom o 0 at ≡ asChosen t o
   unfolding chosenFrom run bare outcome folded
   chosen-done o at = refl
 
   -- an entry, and n more: it takes the place of the one before it if it is wanted
-  abbrev onwards : Option Entry → ℕ → Entry → Outcome Chosen
-  onwards o n e = entryNext t body wanted e >>= λ next. chosenFrom (orElse (ifWanted wanted e) o) n next
+  abbrev entryThen : Option Entry → ℕ → Entry → Outcome Chosen
+  entryThen o n e = entryNext t body wanted e >>= λ next. chosenFrom (orElse (ifWanted wanted e) o) n next
 
-  chosen-next : (o : Option Entry) (n at : ℕ) → chosenFrom o (suc n) at ≡ (entryAt t body at >>= onwards o n)
+  chosen-next : (o : Option Entry) (n at : ℕ) → chosenFrom o (suc n) at ≡ (entryAt t body at >>= entryThen o n)
   unfolding chosenFrom run after judged walked bare outcome entryMet folded
   chosen-next o n at = go (entryAt t body at)
     where
       said : (e : Entry) (v : Outcome ℕ)
-          → closed o (walked e (judged e (v >>= λ next. fine (onward next)) (from n))) ≡ (v >>= λ next. chosenFrom (orElse (ifWanted wanted e) o) n next)
+          → chosenBy o (walked e (judged e (v >>= λ next. fine (onward next)) (from n)))
+          ≡ (v >>= λ next. chosenFrom (orElse (ifWanted wanted e) o) n next)
       said e (fine next) = ap (λ (o : Option Entry). chosenFrom o n next) (sym (keep-or (isWanted wanted) o e))
       said e (refused m) = refl
 
-      go : (a : Outcome Entry) → closed o (after at (entryMet t body wanted a) (from n)) ≡ (a >>= onwards o n)
+      go : (a : Outcome Entry) → chosenBy o (after at (entryMet t body wanted a) (from n)) ≡ (a >>= entryThen o n)
       go (fine e) = said e (entryNext t body wanted e)
       go (refused m) = refl
 
-  next-whole : (e : Entry) {next : ℕ} → isWanted wanted e ≡ true → fine next ≡ entryNext t body wanted e
-      → fine tt ≡ outcome (extents (t .sizes) body e .end)
+  next-passed : (e : Entry) {next : ℕ} → isWanted wanted e ≡ true → fine next ≡ entryNext t body wanted e → Passed (t .sizes) body e
   unfolding entryNext extentsTest
-  next-whole e w h = bind-fine (outcome (extents (t .sizes) body e .end)) (λ u. fine (entryEnd t e)) (rw w at h) .1
+  next-passed e w h = bind-fine (outcome (extents (t .sizes) body e .end)) (λ u. fine (entryEnd t e)) (rw w at h) .1
 
   -- what is chosen is the last wanted one before, or one of the entries
   abbrev Known : Option Entry → Chosen → Type 0
-  Known o c = (c .sizes ≡ t .sizes) × ((o ≡ some (c .entry)) ⊎ Passed t body (c .entry))
+  Known o c = (c .sizes ≡ t .sizes) × ((o ≡ some (c .entry)) ⊎ Passed (t .sizes) body (c .entry))
 
   chosen-from : (o : Option Entry) (n at : ℕ) {c : Chosen} → fine c ≡ chosenFrom o n at → Known o c
   chosen-from o zero at {c} h = go o (h ∙ chosen-done o at)
@@ -96,11 +95,12 @@ module _ (t : Table) (body : List ℕ) (wanted : ℕ) where
       let (e, p, h₁) = bind-fine (entryAt t body at) _ (h ∙ chosen-next o n at) in
       let (next, q, h₂) = bind-fine (entryNext t body wanted e) _ h₁ in
       let (same, r) = chosen-from (orElse (ifWanted wanted e) o) n next h₂ in
-      (same, go e (isWanted wanted e) refl (λ w. record { at = at; read = p; whole = next-whole e w q }) r)
+      (same, go e (isWanted wanted e) refl (λ w. next-passed e w q) r)
     where
-      go : (e : Entry) (b : Bool) → isWanted wanted e ≡ b → (isWanted wanted e ≡ true → Passed t body e)
-          → (orElse (if b then some e else none) o ≡ some (c .entry)) ⊎ Passed t body (c .entry) → (o ≡ some (c .entry)) ⊎ Passed t body (c .entry)
-      go e true w p (inl q) = let same : e ≡ c .entry = cc in inr (subst (Passed t body) same (p w))
+      go : (e : Entry) (b : Bool) → isWanted wanted e ≡ b → (isWanted wanted e ≡ true → Passed (t .sizes) body e)
+          → (orElse (if b then some e else none) o ≡ some (c .entry)) ⊎ Passed (t .sizes) body (c .entry)
+          → (o ≡ some (c .entry)) ⊎ Passed (t .sizes) body (c .entry)
+      go e true w p (inl q) = let same : e ≡ c .entry = cc in inr (subst (Passed (t .sizes) body) same (p w))
       go e false w p (inl q) = inl q
       go e b w p (inr q) = inr q
 
@@ -113,7 +113,7 @@ module _ (t : Table) (body : List ℕ) (wanted n i at : ℕ) (o : Option Entry) 
       rw (z, chosen-done t body wanted o at) at inv
 
   module _ (h : i < n) where
-    more : (entryAt t body at >>= onwards t body wanted o (n - (i + 1))) ≡ answer
+    more : (entryAt t body at >>= entryThen t body wanted o (n - (i + 1))) ≡ answer
     more =
         let k : n - i ≡ suc (n - (i + 1)) = omega arith in
         rw (k, chosen-next t body wanted o (n - (i + 1)) at) at inv
@@ -137,23 +137,25 @@ pub record Chose (body : List ℕ) (c : Chosen) : Type 0 where
   pub wanted : ℕ
   pub is : chosen body wanted ≡ fine c
 
--- its table and its place in it
-record Found (body : List ℕ) (c : Chosen) : Type 0 where
-  table : Table
-  read : fine table ≡ tableOf body
-  sizes : c .sizes ≡ table .sizes
-  passed : Passed table body (c .entry)
+module _ (body : List ℕ) (c : Chosen) (h : Chose body c) where
+  chose-passed : Passed (c .sizes) body (c .entry)
+  unfolding chosen
+  chose-passed =
+      let (t, p, q) = bind-fine (tableOf body) _ (sym (h .is)) in
+      let (same, r) = chosen-from t body (h .wanted) none (t .count) (t .from) (q ∙ sym (chosen-all t body (h .wanted))) in
+      rw same (go (t .sizes) r)
+    where
+      go : (z : Sizes) → (none ≡ some (c .entry)) ⊎ Passed z body (c .entry) → Passed z body (c .entry)
+      go z (inl e) = absurd (not-there e)
+      go z (inr p) = p
 
-chose-found : (body : List ℕ) (c : Chosen) → Chose body c → Found body c
-unfolding chosen
-chose-found body c h =
-    let (t, p, q) = bind-fine (tableOf body) _ (sym (h .is)) in
-    let (same, r) = chosen-from t body (h .wanted) none (t .count) (t .from) (q ∙ sym (chosen-all t body (h .wanted))) in
-    record { table = t; read = p; sizes = same; passed = go t r }
-  where
-    go : (t : Table) → (none ≡ some (c .entry)) ⊎ Passed t body (c .entry) → Passed t body (c .entry)
-    go t (inl e) = absurd (not-there e)
-    go t (inr p) = p
+  pub chose-length : length (extents (c .sizes) body (c .entry) .list) ≡ c .entry .count
+  chose-length = extents-length (c .sizes) body (c .entry) chose-passed
+
+  pub chose-kth : (k : ℕ) → k < c .entry .count → Kth (c .sizes) body (c .entry .from) k (extents (c .sizes) body (c .entry) .list)
+  chose-kth k l = extents-kth (c .sizes) body (c .entry) chose-passed k l
+
+-- ---- An entry that was read
 
 -- The count of extents has two bytes, and they begin inside the body.
 pub record EntryIn (body : List ℕ) (e : Entry) : Type 0 where
@@ -177,19 +179,6 @@ entry-in t body at {e} b h =
     go at i m o n s h =
         let same : record { id = i; method = m; base = o; count = n; from = at + 2 } ≡ e = cc in
         subst (EntryIn body) same (record { count = omega (arith, s .is, number-below body at 2 b); from = omega (arith, s .inside) })
-
-module _ (body : List ℕ) (c : Chosen) (h : Chose body c) where
-  chose-whole : fine tt ≡ outcome (extents (c .sizes) body (c .entry) .end)
-  chose-whole = let f = chose-found body c h in rw (f .sizes) (f .passed .whole)
-
-  pub chose-length : length (extents (c .sizes) body (c .entry) .list) ≡ c .entry .count
-  chose-length = extents-length (c .sizes) body (c .entry) chose-whole
-
-  pub chose-kth : (k : ℕ) → k < c .entry .count → Kth (c .sizes) body (c .entry .from) k (extents (c .sizes) body (c .entry) .list)
-  chose-kth k l = extents-kth (c .sizes) body (c .entry) chose-whole k l
-
-  pub chose-count : Bytes body → c .entry .count < 65536
-  chose-count b = let p = chose-found body c h .passed in entry-in _ body (p .at) b (p .read) .count
 
 -- ---- The table's sizes are half-bytes
 

@@ -56,12 +56,12 @@ module _ (z : Sizes) (body : List ℕ) where
   abbrev pub extentHere : ℕ → Extent
   extentHere at = record { offset = numberAt body (at + z .index) (z .offset); length = numberAt body (at + z .index + z .offset) (z .length) }
 
-  pub record Whole (at : ℕ) (x : Extent) : Type 0 where
-    pub sizes : Judged z
-    pub inside : at + extentWidth z ≤ length body
-    pub is : x ≡ extentHere at
+  record Whole (at : ℕ) (x : Extent) : Type 0 where
+    sizes : Judged z
+    inside : at + extentWidth z ≤ length body
+    is : x ≡ extentHere at
 
-  pub extent-whole : (at : ℕ) {x : Extent} → fine x ≡ extentAt z body at → Whole at x
+  extent-whole : (at : ℕ) {x : Extent} → fine x ≡ extentAt z body at → Whole at x
   unfolding extentAt extentWidth
   extent-whole at {x} e =
       let (i, p, e₁) = bind-fine (sized body at (z .index) 12) _ e in
@@ -124,7 +124,8 @@ module _ (z : Sizes) (body : List ℕ) where
       go more false e = rw (lt-leb (at + w + n * w) (length body) (omega (arith, leb-false (at + w) (length body) e)))
 
   -- the first extent decides for all of them
-  pub first-decides : (n at : ℕ) → (n ≡ 0 → ⊥) → outcome (from n at .end) ≡ (extentAt z body at >>= λ x. require (leb (at + n * w) (length body)) 3)
+  pub first-decides : (n at : ℕ) → (n ≡ 0 → ⊥)
+      → outcome (from n at .end) ≡ (extentAt z body at >>= λ x. require (leb (at + n * w) (length body)) 3)
   unfolding run
   first-decides zero at k = absurd (k refl)
   first-decides (suc n) at k = after-extent at (extentAt z body at) (from n) ∙ go (extentAt z body at) refl

@@ -11,7 +11,7 @@ use Rattle.rules.specs.Doc.Walks.{onward, halt, End, ended, cutAt, refus
 use Rattle.rules.specs.Doc.Headers.{ftyp, Header, headerAt, bodySize, Box, boxWith, is, whole, skips, announced, boxAt, childAt, fileBoxAt}
 use Rattle.rules.specs.Doc.Levels.{Level, tested, said, decided, boxStep, levelStep, boxes, countedBoxes, inside}
 use Rattle.rules.specs.Doc.Ftyp.{topFits, stopped}
-use Rattle.rules.specs.Laws.Rows.{bind-cong}
+use Rattle.rules.specs.Laws.Rows.{bind-assoc, bind-cong}
 use Rattle.rules.specs.Laws.Unroll.{boxes-unroll}
 
 -- the state after the things of a list, each in its turn
@@ -44,10 +44,6 @@ module _ {S R : Type 0} (f : S → Box → S) (done : S → Outcome R) (halted :
   said-next st go b (fine u) (fine v) true = refl
   said-next st go b (fine u) (fine v) false = refl
 
-  fit-next : (b : Box) (fit : Outcome (Unit {0})) (k : Box → Outcome R) → (fit >>= λ u. k b) ≡ ((fit >>= λ u. fine b) >>= k)
-  fit-next b (refused n) k = refl
-  fit-next b (fine u) k = refl
-
   -- what follows a box of the level, from the decision over its size on
   size-next : (st : S) (go : ℕ → Walk Box) (h : Header) (o : Outcome ℕ)
       → closed f done halted st (walked (boxWith h (decided o)) (judged (boxWith h (decided o)) (o >>= λ size. said l s (boxWith h size)) go))
@@ -57,7 +53,7 @@ module _ {S R : Type 0} (f : S → Box → S) (done : S → Outcome R) (halted :
   size-next st go h (fine size) =
       let b : Box = boxWith h size in
       said-next st go b (l .fits (length s) b) (tested l s b) (l .ends (b .kind))
-      ∙ fit-next b (l .fits (length s) b) (λ b. tested l s b >>= λ u. onwards st go b)
+      ∙ sym (bind-assoc (l .fits (length s) b) (λ u. fine b) (λ b. tested l s b >>= λ u. onwards st go b))
 
   step-next : (st : S) (at : ℕ) (go : ℕ → Walk Box) (o : Option Header)
       → closed f done halted st (after at (boxStep l s o) go)
@@ -117,12 +113,10 @@ module _ {S : Type 0} (f : S → Box → S) (opens : ℕ → Bool) (test : List 
   read-next : (st : S) (go : ℕ → Walk Box) (b : Box)
       → (tested l s b >>= λ u. onwards f fine (λ st b. fine st) l s st go b) ≡ readNext st go b
   unfolding readNext onwards inside
-  read-next st go b = rw (agree st b) (row (tested l s b))
-    where
-      row : (o : Outcome (Unit {0}))
-          → (o >>= λ u. closed f fine (λ st b. fine st) (f st b) (go (b .body .to))) ≡ ((o >>= λ u. fine (f st b)) >>= λ st. leaves f st (go (b .body .to)))
-      row (fine u) = sym (leaves-closed f (f st b) (go (b .body .to)))
-      row (refused n) = refl
+  read-next st go b =
+      rw (agree st b)
+      (bind-cong (tested l s b) (λ u. sym (leaves-closed f (f st b) (go (b .body .to))))
+      ∙ sym (bind-assoc (tested l s b) (λ u. fine (f st b)) (λ st. leaves f st (go (b .body .to)))))
 
   pub children-next : (st : S) (at : ℕ) → at < length s → leaves f st (boxes l s at) ≡ (childAt s at >>= readNext st (boxes l s))
   unfolding childAt inside
@@ -176,14 +170,12 @@ module _ (l : Level) (s : List ℕ) where
 pub top-box : (s : List ℕ) (at : ℕ)
     → boxAt 2 (topFits (length s)) s at ≡ (fileBoxAt s at >>= λ b. (if is ftyp b then whole 2 (length s) b else fine tt) >>= λ u. fine b)
 unfolding fileBoxAt boxAt topFits
-top-box s at = go (announced 2 s at)
+top-box s at =
+    bind-cong (announced 2 s at) (λ b. bind-assoc (skips b) (λ u. asked b) (λ u. fine b) ∙ sym (bind-assoc (skips b) (λ u. fine b) whole-then))
+    ∙ sym (bind-assoc (announced 2 s at) (λ b. skips b >>= λ u. fine b) whole-then)
   where
-    go : (o : Outcome Box) → (o >>= λ b. (skips b >>= λ u. if is ftyp b then whole 2 (length s) b else fine tt) >>= λ u. fine b)
-        ≡ ((o >>= λ b. skips b >>= λ u. fine b) >>= λ b. (if is ftyp b then whole 2 (length s) b else fine tt) >>= λ u. fine b)
-    go (refused n) = refl
-    go (fine b) = step (skips b)
-      where
-        step : (o : Outcome (Unit {0})) → ((o >>= λ u. if is ftyp b then whole 2 (length s) b else fine tt) >>= λ u. fine b)
-            ≡ ((o >>= λ u. fine b) >>= λ b. (if is ftyp b then whole 2 (length s) b else fine tt) >>= λ u. fine b)
-        step (fine u) = refl
-        step (refused n) = refl
+    asked : Box → Outcome (Unit {0})
+    asked b = if is ftyp b then whole 2 (length s) b else fine tt
+
+    whole-then : Box → Outcome Box
+    whole-then b = asked b >>= λ u. fine b

@@ -1,127 +1,37 @@
 -- Steps 9 and 10 over bytes, as a program does them, where document 01's definitions have positions in the image: the two say the same.
-use mathlib.Core.Path.{_≡_, refl, sym, ap, _∙_}
-use Prim.Native.Nat.{ℕ, zero, suc, _+_, _-_, _^_, _≤_, _<_}
+use mathlib.Core.Path.{_≡_, refl, ap, _∙_}
+use Prim.Native.Nat.{ℕ, zero, suc, _+_, _-_, _≤_, _<_}
 use native.Mathlib.Omega.{arith}
-use mathlib.Core.Bool.{Bool, true, false, _&&_}
-use mathlib.Core.Option.{Option, none, some}
+use mathlib.Core.Bool.{Bool, true, false}
 use mathlib.Core.List.{List, [], _∷_, _++_, map}
 use lib.ListN.{length, take, drop, length-map}
 use lib.Seq.{drop-cons}
-use lib.Dec.{leb, ltb, eqb}
-use borrow.Author.Tests.{leb-true}
-use Rattle.rules.specs.Doc.Outcomes.{if_then_else_, Outcome, fine, refused, _>>=_, require, given, once}
+use lib.Dec.{leb, ltb}
+use Rattle.rules.specs.Doc.Outcomes.{if_then_else_, Outcome, fine, refused, _>>=_, require, once}
 use Rattle.rules.specs.Doc.Lists.{each}
 use Rattle.rules.specs.Doc.Bytes.{byteAt, numberAt, part, positions, Span, sizeOf, bytesIn}
 use Rattle.rules.specs.Doc.Walks.{Walk, bare, walked, outcome}
-use Rattle.rules.specs.Doc.Headers.{addressable}
 use Rattle.rules.specs.Doc.Meta.{opened}
-use Rattle.rules.specs.Doc.Iloc.{Extent, extents, Chosen, chosen}
-use Rattle.rules.specs.Doc.Join.{Plan, plan, sourceOf, reach, inImage, inIdat, lies, counted, placed, join, positionsIn, joinedIn, joinedBy, joinedFrom, joined}
+use Rattle.rules.specs.Doc.Iloc.{Extent}
+use Rattle.rules.specs.Doc.Join.{Plan, plan, sourceOf, lies, counted, placed, join, positionsIn, joinedIn, joinedBy, joinedFrom, joined}
 use Rattle.rules.specs.Doc.Block.{bytesAt, firstFour, blockAfter, blockIn, block}
 use Rattle.rules.specs.Doc.Answers.{Answer, handed, answerWith, answer}
+use Rattle.rules.specs.OverBytes.{partOf, gathered, added, totalFrom, blockOf, blockFrom, blockBytes, answerOf, refusal}
 use Rattle.rules.specs.Laws.Agreement.{part-at}
 use Rattle.rules.specs.Laws.Numbers.{bytes-in}
-use Rattle.rules.specs.Laws.Rows.{bind-fine, required}
 use Rattle.rules.specs.Laws.Lies.{part-size, source-lies}
+use Rattle.rules.specs.Laws.Places.{EndsIn, lies-inside}
 
--- ---- The definitions
+pub answer-refused : (n : ℕ) (out : List ℕ) {o : Outcome (List ℕ)} → refused n ≡ o → refusal n out ≡ answerOf out o
+unfolding answerOf answerWith
+answer-refused n out e = rw (← e)
 
--- the bytes of a part; none of a refused one
-unfoldable pub partOf : List ℕ → Outcome Span → List ℕ
-partOf s (fine p) = part s (p .from) (sizeOf p)
-partOf s (refused n) = []
+-- ---- The two views
 
--- the joined bytes, whether or not something is refused
-unfoldable pub gathered : (Extent → Outcome Span) → List ℕ → List Extent → List ℕ
-gathered place s xs = each (λ x. partOf s (place x)) xs
-
--- the total after one more part; above 65,535 is 24
-unfoldable pub added : ℕ → Outcome Span → Outcome ℕ
-added total (refused n) = refused n
-added total (fine p) = if ltb 65535 (total + sizeOf p) then refused 24 else fine (total + sizeOf p)
-
--- the total of all extents, or what is refused first
-unfoldable pub totalFrom : (Extent → Outcome Span) → ℕ → List Extent → Outcome ℕ
-totalFrom place total [] = fine total
-totalFrom place total (x ∷ xs) = added total (place x) >>= λ t. totalFrom place t xs
-
--- the block of joined bytes
-unfoldable pub blockOf : List ℕ → Outcome (List ℕ)
-blockOf bytes = blockAfter (numberAt bytes 0 4) bytes
-
--- the block of extents that lie in s
-unfoldable pub blockFrom : (Extent → Outcome Span) → List ℕ → List Extent → Outcome (List ℕ)
-blockFrom place s xs = totalFrom place 0 xs >>= λ t. blockOf (gathered place s xs)
-
--- an `idat` that may be there
-unfoldable pub storeOf : Bool → List ℕ → Option (List ℕ)
-storeOf true s = some s
-storeOf false s = none
-
--- the bytes that a method names, of an image and of an `idat` that may be there
-unfoldable pub named : List ℕ → Option (List ℕ) → ℕ → Outcome (List ℕ)
-named img store method =
-    if eqb method 0 then fine img
-    else if eqb method 1 then given store 21
-    else if eqb method 2 then refused 22
-    else refused 23
-
--- steps 9 and 10 for a chosen entry of the table
-unfoldable pub chosenBlock : List ℕ → Option (List ℕ) → List ℕ → Chosen → Outcome (List ℕ)
-chosenBlock img store table c =
-    named img store (c .entry .method) >>= λ s. blockFrom (lies (c .entry .method) (length s) (c .entry .base)) s (extents (c .sizes) table (c .entry) .list)
-
--- steps 7 to 10
-unfoldable pub itemBlock : List ℕ → Option (List ℕ) → List ℕ → ℕ → Outcome (List ℕ)
-itemBlock img store table wanted = chosen table wanted >>= chosenBlock img store table
-
--- the block of an image, step by step
-unfoldable pub blockBytes : List ℕ → Outcome (List ℕ)
-blockBytes img = do
-  m ← opened img
-  p ← plan (m .body .from) (bytesIn img (m .body))
-  source ← sourceOf (length img) (p .idat) (p .entry .method)
-  let s = bytesIn img source
-  blockFrom (lies (p .entry .method) (length s) (p .entry .base)) s (p .parts)
-
--- the answer for the bytes of a block
-unfoldable pub answerOf : List ℕ → Outcome (List ℕ) → Answer
-answerOf out b = answerWith out (once (handed (length out)) b) b
-
-abbrev onFine : {A B : Type 0} → (A → B) → Outcome A → Outcome B
+-- what is made of a step that went well
+abbrev pub onFine : {A B : Type 0} → (A → B) → Outcome A → Outcome B
 onFine f (fine x) = fine (f x)
 onFine f (refused n) = refused n
-
--- ---- An extent that is not refused ends inside
-
-pub lies-inside : (method n base : ℕ) (x : Extent) (p : Span) → lies method n base x ≡ fine p → p .to ≤ n
-unfolding lies inImage inIdat
-lies-inside method n base x p e =
-    let (u, a, f) = bind-fine (require (ltb (base + x .offset) (2 ^ 64)) 18) _ (sym e) in
-    go (eqb method 0) f
-  where
-    to : ℕ
-    to = reach n base x .to
-
-    inside : leb to n ≡ true → fine p ≡ fine (reach n base x) → p .to ≤ n
-    inside h f =
-        let k : p ≡ reach n base x = cc in
-        rw k (leb-true to n h)
-
-    both : (s t : Bool) → (s && t) ≡ true → t ≡ true
-    both true t h = h
-    both false t h = cc
-
-    go : (t : Bool) → fine p ≡ (if t then inImage n base x else inIdat n base x) → p .to ≤ n
-    go true f =
-        let (v, b, f₁) = bind-fine (require (addressable (x .length)) 27) _ f in
-        let (w, c, f₂) = bind-fine (require (leb to n) 2) _ f₁ in
-        inside (required (leb to n) 2 c) f₂
-    go false f =
-        let (v, b, f₁) = bind-fine (require (ltb (base + x .offset + x .length) (2 ^ 64)) 19) _ f in
-        let (w, c, f₂) = bind-fine (require (addressable (base + x .offset + x .length)) 27) _ f₁ in
-        let (z, d, f₃) = bind-fine (require (leb (base + x .offset) n && leb to n) 20) _ f₂ in
-        inside (both (leb (base + x .offset) n) (leb to n) (required (leb (base + x .offset) n && leb to n) 20 d)) f₃
 
 -- ---- The join
 
@@ -135,10 +45,10 @@ map-drop f (suc n) [] = refl
 map-drop f (suc n) (x ∷ a) = map-drop f n a
 
 -- s is what stands in the image from a position on
-abbrev Stands : List ℕ → ℕ → List ℕ → Type 0
-Stands img origin s = (i : ℕ) → i < length s → byteAt s i ≡ byteAt img (origin + i)
+abbrev StandsFrom : List ℕ → ℕ → List ℕ → Type 0
+StandsFrom img origin s = (i : ℕ) → i < length s → byteAt s i ≡ byteAt img (origin + i)
 
-module _ (img : List ℕ) (source : Span) (s : List ℕ) (stands : Stands img (source .from) s) where
+module _ (img : List ℕ) (source : Span) (s : List ℕ) (stands : StandsFrom img (source .from) s) where
   positions-bytes : (from n : ℕ) → from + n ≤ length s → bytesAt img (positions (source .from + from) n) ≡ part s from n
   unfolding bytesAt positions
   positions-bytes from zero h = refl
@@ -166,7 +76,7 @@ module _ (img : List ℕ) (source : Span) (s : List ℕ) (stands : Stands img (s
   front-bytes a l (fine t) = refl
   front-bytes a l (refused n) = refl
 
-  module _ (place : Extent → Outcome Span) (inside : (x : Extent) (p : Span) → place x ≡ fine p → p .to ≤ length s) where
+  module _ (place : Extent → Outcome Span) (inside : (x : Extent) → EndsIn (length s) (place x)) where
     abbrev positionsOf : Walk Span → Outcome (List ℕ)
     positionsOf w = onFine (bytesAt img) (outcome (w .end) >>= λ u. fine (each (positionsIn source) (w .list)))
 
@@ -238,7 +148,7 @@ module _ (img : List ℕ) where
   total-then (refused n) bytes = refl
 
   -- The block of a plan whose extents lie in the bytes s, which stand in the image where the source is.
-  source-bytes : (source : Span) (p : Plan) (s : List ℕ) → Stands img (source .from) s → length s ≡ sizeOf source
+  source-bytes : (source : Span) (p : Plan) (s : List ℕ) → StandsFrom img (source .from) s → length s ≡ sizeOf source
       → onFine (bytesAt img) (joinedIn source p >>= blockIn img) ≡ blockFrom (lies (p .entry .method) (length s) (p .entry .base)) s (p .parts)
   unfolding joinedIn blockFrom
   source-bytes source p s stands e =
@@ -274,12 +184,12 @@ module _ (img : List ℕ) where
   on-row (fine x) g h k e = e x refl
   on-row (refused n) g h k e = refl
 
-  stands-in : (p : Span) → p .to ≤ length img → Stands img (p .from) (bytesIn img p)
+  stands-in : (p : Span) → p .to ≤ length img → StandsFrom img (p .from) (bytesIn img p)
   stands-in p h i k =
       let j : i < sizeOf p = omega (arith, part-size img p h) in
       rw (bytes-in img p h) (part-at img (p .from) (sizeOf p) i j)
 
-  block-gathered : onFine (bytesAt img) (block img) ≡ blockBytes img
+  pub block-gathered : onFine (bytesAt img) (block img) ≡ blockBytes img
   unfolding block joined joinedFrom joinedBy blockBytes
   block-gathered =
       on-row (opened img) (joinedFrom img) (blockIn img) _

@@ -42,7 +42,9 @@ module _ {A B : Type 0} (p : A → Bool) (r : A → B) where
   keep-last d [] = refl
   keep-last d (x ∷ xs) = keep-last (keep p r d x) xs ∙ go (p x)
     where
-      go : (q : Bool) → orElse (mapped r (lastOf (only p xs))) (if q then some (r x) else d) ≡ orElse (mapped r (lastOf (if q then x ∷ only p xs else only p xs))) d
+      go : (q : Bool)
+          → orElse (mapped r (lastOf (only p xs))) (if q then some (r x) else d)
+          ≡ orElse (mapped r (lastOf (if q then x ∷ only p xs else only p xs))) d
       go true = sym (or-mapped (lastOf (only p xs)) x d) ∙ ap (λ (o : Option A). orElse (mapped r o) d) (sym (last-cons x (only p xs)))
       go false = refl
 
@@ -82,6 +84,8 @@ unfolding folded each only feed
 feed-each f p g st [] = refl
 feed-each {S} {A} {B} f p g st (x ∷ xs) = feed-each f p g (feed f p g st x) xs ∙ go (p x)
   where
-    go : (q : Bool) → folded f (if q then folded f st (g x) else st) (each g (only p xs)) ≡ folded f st (each g (if q then x ∷ only p xs else only p xs))
+    go : (q : Bool)
+        → folded f (if q then folded f st (g x) else st) (each g (only p xs))
+        ≡ folded f st (each g (if q then x ∷ only p xs else only p xs))
     go true = sym (folded-append f st (g x) (each g (only p xs)))
     go false = refl

@@ -14,25 +14,15 @@ use Rattle.rules.specs.Doc.Headers.{Box}
 use Rattle.rules.specs.Doc.Meta.{opened}
 use Rattle.rules.specs.Doc.Children.{Kept, kept}
 use Rattle.rules.specs.Doc.Iloc.{extents, Chosen, chosen}
-use Rattle.rules.specs.Doc.Join.{Plan, moved, movedOption, planOf, plan, sourceOf, lies}
+use Rattle.rules.specs.Doc.Join.{Plan, moved, movedOption, planOf, plan, sourceOf, lies, byMethod}
+use Rattle.rules.specs.Doc.Block.{bytesAt, block}
 use Rattle.rules.specs.Doc.Answers.{answer}
 use Rattle.rules.specs.Laws.Agreement.{part-at}
-use Rattle.rules.specs.Laws.Gather.{blockFrom, blockBytes, named, chosenBlock, itemBlock, answerOf, answer-gathered}
+use Rattle.rules.specs.OverBytes.{blockFrom, chosenBlock, itemBlock, blockBytes, storeIn, keptBlock, metaBlock, answerOf}
+use Rattle.rules.specs.Laws.Gather.{onFine, block-gathered, answer-gathered}
 use Rattle.rules.specs.Laws.Lies.{Lies, part-size, opened-lies, idat-lies}
 use Rattle.rules.specs.Laws.Numbers.{bytes-in}
-
--- the bytes of the last `idat`, if there is one
-unfoldable pub storeIn : List ℕ → Option Span → Option (List ℕ)
-storeIn body none = none
-storeIn body (some d) = some (bytesIn body d)
-
--- steps 7 to 10, for what the children of `meta` leave
-unfoldable pub keptBlock : List ℕ → List ℕ → Kept → Outcome (List ℕ)
-keptBlock img body k = itemBlock img (storeIn body (k .idat)) (bytesIn body (k .iloc)) (k .wanted)
-
--- steps 2 to 10, for the body of the first `meta`
-unfoldable pub metaBlock : List ℕ → List ℕ → Outcome (List ℕ)
-metaBlock img body = kept body >>= keptBlock img body
+use Rattle.rules.specs.Laws.Rows.{bind-assoc, bind-known}
 
 -- ---- Parts of parts
 
@@ -42,7 +32,8 @@ bytes-whole s = bytes-in s (record { from = 0; to = length s }) (omega arith) �
 byte-in : (s : List ℕ) (p : Span) → p .to ≤ length s → (j : ℕ) → j < sizeOf p → byteAt (bytesIn s p) j ≡ byteAt s (p .from + j)
 byte-in s p h j k = ap (λ (t : List ℕ). byteAt t j) (bytes-in s p h) ∙ part-at s (p .from) (sizeOf p) j k
 
-bytes-bytes : (img : List ℕ) (b d : Span) → Lies (length img) b → Lies (length (bytesIn img b)) d → bytesIn img (moved (b .from) d) ≡ bytesIn (bytesIn img b) d
+bytes-bytes : (img : List ℕ) (b d : Span) → Lies (length img) b → Lies (length (bytesIn img b)) d
+    → bytesIn img (moved (b .from) d) ≡ bytesIn (bytesIn img b) d
 unfolding moved
 bytes-bytes img b d l i =
     ext-getD 0 (bytesIn img (moved (b .from) d)) (bytesIn (bytesIn img b) d)
@@ -61,16 +52,6 @@ bytes-bytes img b d l i =
         byte-in img (moved (b .from) d) inner j (omega (arith, size)) ∙ ap (byteAt img) z
         ∙ sym (byte-in (bytesIn img b) d (i .inner) j k ∙ byte-in img b (l .inner) (d .from + j) (omega (arith, part-size img b (l .inner), i .inner)))
 
--- ---- Rows of steps
-
-row : {A B C : Type 0} (o : Outcome A) (f : A → Outcome B) (g : B → Outcome C) → ((o >>= f) >>= g) ≡ (o >>= λ x. f x >>= g)
-row (fine x) f g = refl
-row (refused n) f g = refl
-
-row-known : {A B : Type 0} (o : Outcome A) {f g : A → Outcome B} → ((x : A) → o ≡ fine x → f x ≡ g x) → (o >>= f) ≡ (o >>= g)
-row-known (fine x) e = e x refl
-row-known (refused n) e = refl
-
 -- ---- The method's bytes
 
 module _ (img : List ℕ) (m : Box) (e : opened img ≡ fine m) where
@@ -78,8 +59,8 @@ module _ (img : List ℕ) (m : Box) (e : opened img ≡ fine m) where
   body = bytesIn img (m .body)
 
   source-named : (o : Option Span) → ((d : Span) → o ≡ some d → Lies (length body) d) → (method : ℕ) (f : List ℕ → Outcome (List ℕ))
-      → (sourceOf (length img) (movedOption (m .body .from) o) method >>= λ source. f (bytesIn img source)) ≡ (named img (storeIn body o) method >>= f)
-  unfolding sourceOf named movedOption storeIn
+      → (sourceOf (length img) (movedOption (m .body .from) o) method >>= λ source. f (bytesIn img source)) ≡ (byMethod img (storeIn body o) method >>= f)
+  unfolding sourceOf byMethod movedOption storeIn
   source-named o l method f = go (eqb method 0) (eqb method 1) (eqb method 2) o l
     where
       go : (t₀ t₁ t₂ : Bool) (o : Option Span) → ((d : Span) → o ≡ some d → Lies (length (bytesIn img (m .body))) d)
@@ -100,8 +81,8 @@ module _ (img : List ℕ) (m : Box) (e : opened img ≡ fine m) where
   unfolding planOf keptBlock itemBlock chosenBlock
   kept-lent k h =
       let table : List ℕ = bytesIn body (k .iloc) in
-      row (chosen table (k .wanted)) (λ c. fine (planned table c)) _
-      ∙ row-known (chosen table (k .wanted))
+      bind-assoc (chosen table (k .wanted)) (λ c. fine (planned table c)) _
+      ∙ bind-known (chosen table (k .wanted))
       (λ c g. source-named (k .idat) (λ d q. idat-lies body k d h q) (c .entry .method)
       (λ s. blockFrom (lies (c .entry .method) (length s) (c .entry .base)) s (extents (c .sizes) table (c .entry) .list)))
     where
@@ -113,9 +94,15 @@ module _ (img : List ℕ) (m : Box) (e : opened img ≡ fine m) where
       >>= λ source. blockFrom (lies (p .entry .method) (length (bytesIn img source)) (p .entry .base)) (bytesIn img source) (p .parts))
       ≡ metaBlock img body
   unfolding plan metaBlock
-  meta-lent = row (kept body) (planOf (m .body .from) body) _ ∙ row-known (kept body) (λ k h. kept-lent k h)
+  meta-lent = bind-assoc (kept body) (planOf (m .body .from) body) _ ∙ bind-known (kept body) (λ k h. kept-lent k h)
 
--- Document 01's answer, from the first `meta` on.
-pub answer-lent : (img out : List ℕ) → answer img out ≡ answerOf out (opened img >>= λ m. metaBlock img (bytesIn img (m .body)))
+image-lent : (img : List ℕ) → blockBytes img ≡ (opened img >>= λ m. metaBlock img (bytesIn img (m .body)))
 unfolding blockBytes
-answer-lent img out = answer-gathered img out ∙ ap (answerOf out) (row-known (opened img) (λ m e. meta-lent img m e))
+image-lent img = bind-known (opened img) (λ m e. meta-lent img m e)
+
+-- Document 01's block, and its answer, from the first `meta` on.
+pub block-lent : (img : List ℕ) → onFine (bytesAt img) (block img) ≡ (opened img >>= λ m. metaBlock img (bytesIn img (m .body)))
+block-lent img = block-gathered img ∙ image-lent img
+
+pub answer-lent : (img out : List ℕ) → answer img out ≡ answerOf out (opened img >>= λ m. metaBlock img (bytesIn img (m .body)))
+answer-lent img out = answer-gathered img out ∙ ap (answerOf out) (image-lent img)

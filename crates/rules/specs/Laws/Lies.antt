@@ -5,7 +5,7 @@ use native.Mathlib.Omega.{arith}
 use mathlib.Core.Bool.{Bool, true, false}
 use mathlib.Core.Option.{Option, none, some}
 use mathlib.Core.List.{List, [], _∷_}
-use lib.ListN.{length, length-take, length-drop}
+use lib.ListN.{length}
 use lib.Dec.{leb, eqb}
 use Rattle.rules.specs.Doc.Outcomes.{if_then_else_, Outcome, fine, refused, _>>=_, require, given}
 use Rattle.rules.specs.Doc.Lists.{any, only, lastOf}
@@ -18,8 +18,8 @@ use Rattle.rules.specs.Doc.Meta.{openedIn, opened, metaTest}
 use Rattle.rules.specs.Doc.Children.{metaLevel, children, bodyIn, lastBody, wantedItem, Kept, keptIn, kept}
 use Rattle.rules.specs.Doc.Iinf.{Item, infoTest}
 use Rattle.rules.specs.Doc.Iloc.{extents, chosen}
-use Rattle.rules.specs.Doc.Join.{Plan, moved, movedOption, planOf, plan, sourceOf}
-use Rattle.rules.specs.Laws.Numbers.{bytes-in}
+use Rattle.rules.specs.Doc.Join.{Plan, moved, movedOption, planOf, plan, byMethod, sourceOf}
+use Rattle.rules.specs.Laws.Numbers.{part-length, bytes-in}
 use Rattle.rules.specs.Laws.Headers.{whole-fits}
 use Rattle.rules.specs.Laws.Rows.{apart, bind-fine}
 
@@ -82,7 +82,8 @@ module _ {A : Type 0} (P : A → Type 0) where
 
 -- at a level inside a box, every box met lies inside
 module _ (o : ℕ → Bool) (t : List ℕ → Outcome (Unit {0})) (s : List ℕ) where
-  said-lies : (h : Header) (r : Outcome ℕ) (v : Then) → (r >>= λ size. said (inside o t) s (boxWith h size)) ≡ fine v → Lies (length s) (boxWith h (decided r) .body)
+  said-lies : (h : Header) (r : Outcome ℕ) (v : Then) → (r >>= λ size. said (inside o t) s (boxWith h size)) ≡ fine v
+      → Lies (length s) (boxWith h (decided r) .body)
   unfolding decided said inside boxWith
   said-lies h (refused n) v e = absurd (apart (sym e))
   said-lies h (fine size) v e =
@@ -116,7 +117,8 @@ in-list body (some b) d p e =
     let k : d ≡ b .body = cc in
     rw k (p b refl)
 
-last-lies : (body : List ℕ) (kind : ℕ) (d : Span) → fine tt ≡ outcome (children body .end) → lastBody kind (children body .list) ≡ some d → Lies (length body) d
+last-lies : (body : List ℕ) (kind : ℕ) (d : Span) → fine tt ≡ outcome (children body .end) → lastBody kind (children body .list) ≡ some d
+    → Lies (length body) d
 unfolding children metaLevel lastBody
 last-lies body kind d e f =
     let bs : List Box = children body .list in
@@ -205,7 +207,7 @@ opened-lies img m e =
 -- ---- The bytes that a method names
 
 pub part-size : (s : List ℕ) (p : Span) → p .to ≤ length s → length (bytesIn s p) ≡ sizeOf p
-part-size s p h = rw (bytes-in s p h) (simp (length-take, length-drop) (omega arith))
+part-size s p h = rw (bytes-in s p h) (part-length s p h)
 
 plan-idat : (origin : ℕ) (body : List ℕ) (p : Plan) → plan origin body ≡ fine p → (k : Kept) × (kept body ≡ fine k) × (p .idat ≡ movedOption origin (k .idat))
 unfolding plan planOf
@@ -226,7 +228,7 @@ moved-lies origin n (some q) d p e =
 -- The source of a plan ends inside the image.
 pub source-lies : (img : List ℕ) (m : Box) (p : Plan) (source : Span) → opened img ≡ fine m → plan (m .body .from) (bytesIn img (m .body)) ≡ fine p
     → sourceOf (length img) (p .idat) (p .entry .method) ≡ fine source → source .to ≤ length img
-unfolding sourceOf
+unfolding sourceOf byMethod
 source-lies img m p source e f g = go (eqb (p .entry .method) 0) (eqb (p .entry .method) 1) (eqb (p .entry .method) 2) (p .idat) refl g
   where
     inner : (d : Span) → p .idat ≡ some d → d .to ≤ length img

@@ -4,7 +4,7 @@ use mathlib.Core.List.{List}
 use Prim.Native.Nat.{ℕ, zero, suc, _+_, _*_, _^_, _≤_, _<_}
 use native.Mathlib.Nat.{pow-suc, pow-le-pow-right, lt-of-lt-of-le, le-of-suc-le-suc}
 use native.Mathlib.Omega.{arith}
-use lib.ListN.{length}
+use lib.ListN.{length, length-take, length-drop}
 use lib.Dec.{lit<}
 use mir.Syntax.{w8}
 use mir.Val.{Fits}
@@ -43,7 +43,10 @@ pub sized-out : (s : List ℕ) (at w n : ℕ) → (w ≡ 0 → ⊥) → (w ≡ 4
 unfolding sized
 sized-out s at w n a b c = rw (ne-eqb w 0 a, ne-eqb w 4 b, ne-eqb w 8 c)
 
--- a span that fits
+-- a span that fits has its bytes
+pub part-length : (s : List ℕ) (p : Span) → p .to ≤ length s → length (part s (p .from) (sizeOf p)) ≡ sizeOf p
+part-length s p h = simp (length-take, length-drop) (omega arith)
+
 pub bytes-in : (s : List ℕ) (p : Span) → p .to ≤ length s → bytesIn s p ≡ part s (p .from) (sizeOf p)
 unfolding bytesIn
 bytes-in s p h = rw (le-leb (p .to) (length s) h)

@@ -1,12 +1,16 @@
 -- Step 9 for one extent, case by case.
-use mathlib.Core.Path.{_≡_}
+use mathlib.Core.Path.{_≡_, sym}
 use Prim.Native.Nat.{ℕ, _+_, _^_, _≤_, _<_}
 use native.Mathlib.Omega.{arith}
-use borrow.Author.Tests.{lt-ltb, le-ltb, le-leb, lt-leb, eq-eqb, ne-eqb}
-use Rattle.rules.specs.Doc.Outcomes.{Outcome, fine, refused}
+use mathlib.Core.Bool.{Bool, true, false, _&&_}
+use lib.Dec.{leb, ltb, eqb}
+use borrow.Author.Tests.{lt-ltb, le-ltb, le-leb, lt-leb, eq-eqb, ne-eqb, leb-true}
+use Rattle.rules.specs.Doc.Outcomes.{if_then_else_, Outcome, fine, refused, require}
 use Rattle.rules.specs.Doc.Bytes.{Span}
 use Rattle.rules.specs.Doc.Iloc.{Extent}
+use Rattle.rules.specs.Doc.Headers.{addressable}
 use Rattle.rules.specs.Doc.Join.{reach, inImage, inIdat, lies}
+use Rattle.rules.specs.Laws.Rows.{bind-fine, required}
 
 module _ (n base : ℕ) (x : Extent) where
   -- ---- Where it begins, and which of the two decides
@@ -70,3 +74,37 @@ module _ (n base : ℕ) (x : Extent) where
       pub idat-part : end ≤ n → fine (record { from = base + x .offset; to = end }) ≡ inIdat n base x
       unfolding inIdat reach
       idat-part l = rw (lt-ltb end (2 ^ 64) h, le-leb (base + x .offset) n (omega arith), ne-eqb (x .length) 0 z, le-leb end n l)
+
+-- ---- An extent that is not refused ends inside the n bytes
+
+abbrev pub EndsIn : ℕ → Outcome Span → Type 0
+EndsIn n o = (p : Span) → o ≡ fine p → p .to ≤ n
+
+pub lies-inside : (method n base : ℕ) (x : Extent) → EndsIn n (lies method n base x)
+unfolding lies inImage inIdat
+lies-inside method n base x p e =
+    let (u, a, f) = bind-fine (require (ltb (base + x .offset) (2 ^ 64)) 18) _ (sym e) in
+    go (eqb method 0) f
+  where
+    to : ℕ
+    to = reach n base x .to
+
+    inside : leb to n ≡ true → fine p ≡ fine (reach n base x) → p .to ≤ n
+    inside h f =
+        let k : p ≡ reach n base x = cc in
+        rw k (leb-true to n h)
+
+    both : (s t : Bool) → (s && t) ≡ true → t ≡ true
+    both true t h = h
+    both false t h = cc
+
+    go : (t : Bool) → fine p ≡ (if t then inImage n base x else inIdat n base x) → p .to ≤ n
+    go true f =
+        let (v, b, f₁) = bind-fine (require (addressable (x .length)) 27) _ f in
+        let (w, c, f₂) = bind-fine (require (leb to n) 2) _ f₁ in
+        inside (required (leb to n) 2 c) f₂
+    go false f =
+        let (v, b, f₁) = bind-fine (require (ltb (base + x .offset + x .length) (2 ^ 64)) 19) _ f in
+        let (w, c, f₂) = bind-fine (require (addressable (base + x .offset + x .length)) 27) _ f₁ in
+        let (z, d, f₃) = bind-fine (require (leb (base + x .offset) n && leb to n) 20) _ f₂ in
+        inside (both (leb (base + x .offset) n) (leb to n) (required (leb (base + x .offset) n && leb to n) 20 d)) f₃

@@ -1,5 +1,5 @@
--- Every step before the room refuses with a number from 1 to 27.
-use mathlib.Core.Path.{_≡_, refl}
+-- Every step before the room refuses with a number from 1 to 27. Steps 7 to 10 are gone through over bytes; what holds there holds over positions.
+use mathlib.Core.Path.{_≡_, refl, sym, subst}
 use Prim.Native.Nat.{ℕ, zero, suc, _+_, _-_, _/_, _%_, _^_, _<_}
 use native.Mathlib.Omega.{arith}
 use mathlib.Core.Bool.{Bool, true, false, _&&_, _||_}
@@ -19,10 +19,12 @@ use Rattle.rules.specs.Doc.Meta.{openedIn, opened, metaTest}
 use Rattle.rules.specs.Doc.Children.{metaLevel, children, lastBody, wantedItem, keptIn, kept}
 use Rattle.rules.specs.Doc.Iinf.{itemIdSize, item, itemTest, countSize, infoCount, infoLevel, infos, infoTest}
 use Rattle.rules.specs.Doc.Iloc.{Sizes, Table, idSize, tableOf, inFile, Entry, entryAt, Extent, extentAt, extentMet, extents, isWanted, entryEnd, extentsTest, entryNext, entryMet, entries, chosenIn, chosen}
-use Rattle.rules.specs.Doc.Join.{planOf, plan, sourceOf, reach, inImage, inIdat, lies, counted, placed, join, joinedIn, joinedBy, joinedFrom, joined}
-use Rattle.rules.specs.Doc.Block.{blockAfter, blockIn, block}
+use Rattle.rules.specs.Doc.Join.{reach, inImage, inIdat, lies, byMethod}
+use Rattle.rules.specs.Doc.Block.{bytesAt, blockAfter, block}
+use Rattle.rules.specs.Laws.Gather.{onFine}
+use Rattle.rules.specs.Laws.Lent.{block-lent}
 use Rattle.rules.specs.Doc.Answers.{answerWith}
-use Rattle.rules.specs.Laws.Gather.{added, totalFrom, blockOf, blockFrom, named, chosenBlock, itemBlock, answerOf}
+use Rattle.rules.specs.OverBytes.{metaBlock, keptBlock, added, totalFrom, blockOf, blockFrom, chosenBlock, itemBlock}
 
 abbrev pub InTable : ℕ → Type 0
 InTable n = T (leb 1 n && leb n 27)
@@ -86,13 +88,15 @@ data NumberedEnd {A : Type 0} : End A → Type 0 where
   in-thing : {n : ℕ} {x : A} → InTable n → NumberedEnd (refusedAt n x)
   in-stop : {x : A} → NumberedEnd (stoppedAt x)
 
-judged-numbered : {A : Type 0} (x : A) (v : Outcome Then) (go : ℕ → Walk A) → Numbered v → ((q : ℕ) → NumberedEnd (go q .end)) → NumberedEnd (judged x v go .end)
+judged-numbered : {A : Type 0} (x : A) (v : Outcome Then) (go : ℕ → Walk A) → Numbered v → ((q : ℕ) → NumberedEnd (go q .end))
+    → NumberedEnd (judged x v go .end)
 unfolding judged bare
 judged-numbered x (fine (onward next)) go p q = q next
 judged-numbered x (fine halt) go p q = in-stop
 judged-numbered x (refused n) go (with-number p) q = in-thing p
 
-after-numbered : {A : Type 0} (at : ℕ) (st : Step A) (go : ℕ → Walk A) → NumberedStep st → ((q : ℕ) → NumberedEnd (go q .end)) → NumberedEnd (after at st go .end)
+after-numbered : {A : Type 0} (at : ℕ) (st : Step A) (go : ℕ → Walk A) → NumberedStep st → ((q : ℕ) → NumberedEnd (go q .end))
+    → NumberedEnd (after at st go .end)
 unfolding after walked bare
 after-numbered at over go p q = in-end
 after-numbered at (cut n) go (at-cut p) q = in-cut p
@@ -258,14 +262,10 @@ chosen-numbered body wanted =
 
 -- ---- Steps 9 and 10
 
-by-method : {A : Type 0} (x : A) (store : Option A) (method : ℕ)
-    → Numbered (if eqb method 0 then fine x else if eqb method 1 then given store 21 else if eqb method 2 then refused 22 else refused 23)
-by-method x store method =
+method-numbered : {A : Type 0} (x : A) (store : Option A) (method : ℕ) → Numbered (byMethod x store method)
+unfolding byMethod
+method-numbered x store method =
     either (eqb method 0) _ _ went (either (eqb method 1) _ _ (given-numbered store 21 tt) (either (eqb method 2) _ _ (with-number tt) (with-number tt)))
-
-source-numbered : (n : ℕ) (store : Option Span) (method : ℕ) → Numbered (sourceOf n store method)
-unfolding sourceOf
-source-numbered n store method = by-method _ store method
 
 lies-numbered : (method n base : ℕ) (x : Extent) → Numbered (lies method n base x)
 unfolding lies inImage inIdat
@@ -281,37 +281,9 @@ lies-numbered method n base x =
     to : ℕ
     to = reach n base x .to
 
-counted-up : (y : Span) (t : Bool) (w : Walk Span) → NumberedEnd (w .end) → NumberedEnd (counted y t w .end)
-unfolding counted walked bare
-counted-up y true w q = in-thing tt
-counted-up y false w q = q
-
-placed-numbered : (k total : ℕ) (o : Outcome Span) → Numbered o → (rest : ℕ → Walk Span) → ((t : ℕ) → NumberedEnd (rest t .end)) → NumberedEnd (placed k total o rest .end)
-unfolding placed bare
-placed-numbered k total (refused n) (with-number p) rest q = in-cut p
-placed-numbered k total (fine y) p rest q = counted-up y (ltb 65535 (total + sizeOf y)) (rest (total + sizeOf y)) (q (total + sizeOf y))
-
-join-numbered : (place : Extent → Outcome Span) → ((x : Extent) → Numbered (place x)) → (k total : ℕ) (xs : List Extent) → NumberedEnd (join place k total xs .end)
-unfolding join bare
-join-numbered place p k total [] = in-end
-join-numbered place p k total (x ∷ xs) = placed-numbered k total (place x) (p x) (λ t. join place (suc k) t xs) (λ t. join-numbered place p (suc k) t xs)
-
-joined-numbered : (img : List ℕ) → Numbered (joined img)
-unfolding joined joinedFrom plan planOf joinedBy joinedIn
-joined-numbered img =
-    row _ _ (opened-numbered img) (λ m. row _ _ (row _ _ (kept-numbered _) (λ k. row _ _ (chosen-numbered _ (k .wanted)) (λ c. went)))
-    (λ p. row _ _ (source-numbered (length img) (p .idat) (p .entry .method))
-    (λ source. row _ _ (outcome-numbered _ (join-numbered _ (lies-numbered (p .entry .method) (sizeOf source) (p .entry .base)) 0 0 (p .parts))) (λ u. went))))
-
 after-offset-numbered : (offset : ℕ) (ps : List ℕ) → Numbered (blockAfter offset ps)
 unfolding blockAfter
 after-offset-numbered offset ps = row _ _ (require-numbered (leb 4 (length ps)) 25 tt) (λ u. row _ _ (require-numbered (leb offset (length ps - 4)) 26 tt) (λ v. went))
-
-pub block-numbered : (img : List ℕ) → Numbered (block img)
-unfolding block blockIn
-block-numbered img = row _ _ (joined-numbered img) (λ ps. after-offset-numbered _ ps)
-
--- ---- Steps 7 to 10 over bytes
 
 added-numbered : (total : ℕ) (o : Outcome Span) → Numbered o → Numbered (added total o)
 unfolding added
@@ -323,15 +295,24 @@ unfolding totalFrom
 total-numbered place p total [] = went
 total-numbered place p total (x ∷ xs) = row _ _ (added-numbered total (place x) (p x)) (λ t. total-numbered place p t xs)
 
-named-numbered : (img : List ℕ) (store : Option (List ℕ)) (method : ℕ) → Numbered (named img store method)
-unfolding named
-named-numbered img store method = by-method img store method
-
 pub item-block-numbered : (img : List ℕ) (store : Option (List ℕ)) (table : List ℕ) (wanted : ℕ) → Numbered (itemBlock img store table wanted)
 unfolding itemBlock chosenBlock blockFrom blockOf
 item-block-numbered img store table wanted =
-    row _ _ (chosen-numbered table wanted) (λ c. row _ _ (named-numbered img store (c .entry .method))
+    row _ _ (chosen-numbered table wanted) (λ c. row _ _ (method-numbered img store (c .entry .method))
     (λ s. row _ _ (total-numbered _ (lies-numbered (c .entry .method) (length s) (c .entry .base)) 0 _) (λ t. after-offset-numbered _ _)))
+
+-- ---- The whole, over bytes, and so over positions
+
+bytes-numbered : (img : List ℕ) → Numbered (opened img >>= λ m. metaBlock img (bytesIn img (m .body)))
+unfolding metaBlock keptBlock
+bytes-numbered img = row _ _ (opened-numbered img) (λ m. row _ _ (kept-numbered _) (λ k. item-block-numbered img _ _ (k .wanted)))
+
+pub block-numbered : (img : List ℕ) → Numbered (block img)
+block-numbered img = go (block img) (subst Numbered (sym (block-lent img)) (bytes-numbered img))
+  where
+    go : (o : Outcome (List ℕ)) → Numbered (onFine (bytesAt img) o) → Numbered o
+    go (fine ps) p = went
+    go (refused n) (with-number p) = with-number p
 
 -- ---- What that shows
 
@@ -339,12 +320,12 @@ item-block-numbered img store table wanted =
 pub not-given : (n k : ℕ) → Numbered {A = List ℕ} (refused n) → n ≡ k → (InTable k → ⊥) → ⊥
 not-given n k (with-number p) e out = out (rw e at p)
 
--- 28 carries a length
-pub room-length : (out : List ℕ) (b : Outcome (List ℕ)) → Numbered b → answerOf out b .number ≡ 28 → 0 < answerOf out b .length
-unfolding answerOf answerWith
-room-length out (refused n) p e = absurd (not-given n 28 p e (λ t. t))
-room-length out (fine bytes) p e = go (leb (length bytes) (length out)) refl e
+-- 28 carries the length that is needed, which is not 0
+pub room-length : (out bytes : List ℕ) (o : Outcome (List ℕ)) → Numbered o → answerWith out bytes o .number ≡ 28 → 0 < answerWith out bytes o .length
+unfolding answerWith
+room-length out bytes (refused n) p e = absurd (not-given n 28 p e (λ t. t))
+room-length out bytes (fine ps) p e = go (leb (length ps) (length out)) refl e
   where
-    go : (t : Bool) → leb (length bytes) (length out) ≡ t → _≡_ {A = ℕ} (if t then 0 else 28) 28 → 0 < length bytes
+    go : (t : Bool) → leb (length ps) (length out) ≡ t → _≡_ {A = ℕ} (if t then 0 else 28) 28 → 0 < length ps
     go true f e = absurd (omega arith)
-    go false f e = omega (arith, leb-false (length bytes) (length out) f)
+    go false f e = omega (arith, leb-false (length ps) (length out) f)

@@ -17,7 +17,15 @@ pub required : (t : Bool) (n : ℕ) → fine tt ≡ require t n → t ≡ true
 required true n e = refl
 required false n e = absurd (apart e)
 
--- what follows a step may differ in how it is said
+-- steps in a row are one row, however they are grouped
+pub bind-assoc : {A B C : Type 0} (o : Outcome A) (f : A → Outcome B) (g : B → Outcome C) → ((o >>= f) >>= g) ≡ (o >>= λ x. f x >>= g)
+bind-assoc (fine x) f g = refl
+bind-assoc (refused n) f g = refl
+
+-- what follows a step that went well may differ in how it is said
+pub bind-known : {A B : Type 0} (o : Outcome A) {f g : A → Outcome B} → ((x : A) → o ≡ fine x → f x ≡ g x) → (o >>= f) ≡ (o >>= g)
+bind-known (fine x) e = e x refl
+bind-known (refused n) e = refl
+
 pub bind-cong : {A B : Type 0} {f g : A → Outcome B} (o : Outcome A) → ((x : A) → f x ≡ g x) → (o >>= f) ≡ (o >>= g)
-bind-cong (fine x) e = e x
-bind-cong (refused n) e = refl
+bind-cong o e = bind-known o (λ x f. e x)

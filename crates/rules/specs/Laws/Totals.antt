@@ -4,7 +4,7 @@ use Prim.Native.Nat.{ℕ, _+_, _-_, _≤_, _<_}
 use native.Mathlib.Omega.{arith}
 use mathlib.Core.Bool.{Bool, true, false}
 use mathlib.Core.List.{List, [], _∷_, _++_}
-use lib.ListN.{length, length-append, length-take, length-drop}
+use lib.ListN.{length, length-append}
 use lib.Dec.{ltb}
 use borrow.Author.Tests.{lt-ltb, le-ltb, ltb-false}
 use Rattle.rules.specs.Doc.Outcomes.{if_then_else_, Outcome, fine, refused, _>>=_}
@@ -12,7 +12,9 @@ use Rattle.rules.specs.Doc.Lists.{each}
 use Rattle.rules.specs.Doc.Bytes.{Span, sizeOf}
 use Rattle.rules.specs.Doc.Iloc.{Extent}
 use Rattle.rules.specs.Laws.Rows.{apart}
-use Rattle.rules.specs.Laws.Gather.{partOf, gathered, added, totalFrom}
+use Rattle.rules.specs.Laws.Numbers.{part-length}
+use Rattle.rules.specs.Laws.Places.{EndsIn}
+use Rattle.rules.specs.OverBytes.{partOf, gathered, added, totalFrom}
 
 -- ---- One part more
 
@@ -57,17 +59,9 @@ module _ (place : Extent → Outcome Span) (t : ℕ) {xs : List Extent} {T : Out
 
 -- ---- The total is the length of the joined bytes
 
--- every part that is not refused ends inside s
-abbrev pub Inside : (Extent → Outcome Span) → List ℕ → Type 0
-Inside place s = (x : Extent) (p : Span) → place x ≡ fine p → p .to ≤ length s
-
-part-length : (s : List ℕ) (p : Span) → p .to ≤ length s → length (partOf s (fine p)) ≡ sizeOf p
-unfolding partOf
-part-length s p h = simp (length-take, length-drop) (omega arith)
-
-module _ (place : Extent → Outcome Span) (s : List ℕ) (inside : Inside place s) where
+module _ (place : Extent → Outcome Span) (s : List ℕ) (inside : (x : Extent) → EndsIn (length s) (place x)) where
   pub total-is : (t₀ t : ℕ) (xs : List Extent) → fine t ≡ totalFrom place t₀ xs → t ≡ t₀ + length (gathered place s xs)
-  unfolding totalFrom gathered each added
+  unfolding totalFrom gathered each added partOf
   total-is t₀ t [] h =
       let e : t₀ ≡ t = cc in
       omega arith

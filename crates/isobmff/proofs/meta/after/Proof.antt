@@ -1,3 +1,4 @@
+-- Case by case, as `afterwards` has them.
 use Rattle.isobmff.specs.Children.{afterwards}
 use borrow.Author.Needs.{needs}
 use Rattle.isobmff.proofs.meta.after.Statement.{statement}

@@ -1,3 +1,4 @@
+-- By the type, as `childOver` has it.
 use borrow.Author.Tests.{ne-eqb}
 use Rattle.rules.specs.Laws.Last.{keep}
 use Rattle.isobmff.specs.Children.{childOver}

@@ -1,3 +1,4 @@
+-- The children from `at` on decide what all of them leave, given what those before left.
 use mathlib.Core.Path.{_≡_}
 use Prim.Native.Nat.{_-_}
 use native.Mathlib.Omega.{arith}
@@ -25,7 +26,12 @@ enum-known-e : tie.Need-enum-known-e Inv-loop μ-loop
 enum-known-e c = search needs
 
 returns : tie.Need-returns Inv-loop μ-loop
-returns c = child-cut _ _ _ (c .before .before .before .before .before .loop .inv) (c .before .before .before .before .loop-test .taken) (rw (c .before .e .given .1) at (c .before .before .before .child-box .ensures))
+returns c =
+    let e = c .before in
+    let box = e .before .before in
+    let test = box .before in
+    let turn = test .before in
+    child-cut _ _ _ (turn .loop .inv) (test .loop-test .taken) (rw (e .e .given .1) at (box .child-box .ensures))
 
 enum-known-kind : tie.Need-enum-known-kind Inv-loop μ-loop
 enum-known-kind c = search needs
@@ -39,7 +45,14 @@ enum-known-e-2 : tie.Need-enum-known-e-2 Inv-loop μ-loop
 enum-known-e-2 c = search needs
 
 returns-2 : tie.Need-returns-2 Inv-loop μ-loop
-returns-2 c = child-read _ _ _ (c .before .before .before .before .before .before .before .before .before .loop .inv) (c .before .before .before .before .before .before .before .before .loop-test .taken) (rw (c .before .before .before .before .before .kind .given .1) at (c .before .before .before .before .before .before .before .child-box .ensures)) (rw (c .before .e2 .given .1) at (c .before .before .before .child .ensures))
+returns-2 c =
+    let e2 = c .before in
+    let child = e2 .before .before in
+    let kind = child .before .before in
+    let box = kind .before .before in
+    let test = box .before in
+    let turn = test .before in
+    child-read _ _ _ (turn .loop .inv) (test .loop-test .taken) (rw (kind .kind .given .1) at (box .child-box .ensures)) (rw (e2 .e2 .given .1) at (child .child .ensures))
 
 enum-known-next : tie.Need-enum-known-next Inv-loop μ-loop
 enum-known-next c = search needs
@@ -50,7 +63,14 @@ loop-less c =
     omega arith
 
 loop-again : tie.Need-loop-again Inv-loop μ-loop
-loop-again c = child-read _ _ _ (c .before .before .before .before .before .before .before .before .before .loop .inv) (c .before .before .before .before .before .before .before .before .loop-test .taken) (rw (c .before .before .before .before .before .kind .given .1) at (c .before .before .before .before .before .before .before .child-box .ensures)) (rw (c .before .next .given .1) at (c .before .before .before .child .ensures))
+loop-again c =
+    let next = c .before in
+    let child = next .before .before in
+    let kind = child .before .before in
+    let box = kind .before .before in
+    let test = box .before in
+    let turn = test .before in
+    child-read _ _ _ (turn .loop .inv) (test .loop-test .taken) (rw (kind .kind .given .1) at (box .child-box .ensures)) (rw (next .next .given .1) at (child .child .ensures))
 
 returns-3 : tie.Need-returns-3 Inv-loop μ-loop
 returns-3 c = children-over _ _ _ (c .before .loop .inv) (c .loop-test .left)

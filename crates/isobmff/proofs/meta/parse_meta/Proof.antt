@@ -1,3 +1,4 @@
+-- Each answer by its law in Children.
 use Rattle.isobmff.specs.Children.{meta-cut, meta-version, meta-children}
 use borrow.Author.Needs.{needs}
 use Rattle.isobmff.proofs.meta.parse_meta.Statement.{statement}
@@ -28,13 +29,28 @@ returns : tie.Need-returns
 returns c = meta-cut _ (rw (c .before .e .given .1) at (c .before .before .before .fullbox-header .ensures))
 
 returns-2 : tie.Need-returns-2
-returns-2 c = meta-children _ (rw (c .before .before .before .before .before .before .version .given .1) at (c .before .before .before .before .before .before .before .before .fullbox-header .ensures)) (c .before .before .before .before .match2 .keys1) (rw (c .before .e2 .given .1) at (c .before .before .before .children .ensures))
+returns-2 c =
+    let e2 = c .before in
+    let children = e2 .before .before in
+    let m2 = children .before in
+    let version = m2 .before .before in
+    let head = version .before .before in
+    meta-children _ (rw (version .version .given .1) at (head .fullbox-header .ensures)) (m2 .match2 .keys1) (rw (e2 .e2 .given .1) at (children .children .ensures))
 
 returns-3 : tie.Need-returns-3
-returns-3 c = rw (meta-children _ (rw (c .before .before .before .before .before .before .before .version .given .1) at (c .before .before .before .before .before .before .before .before .before .fullbox-header .ensures)) (c .before .before .before .before .before .match2 .keys1) (rw (c .before .before .seen .given .1) at (c .before .before .before .before .children .ensures))) at (c .after .ensures)
+returns-3 c =
+    let seen = c .before .before in
+    let children = seen .before .before in
+    let m2 = children .before in
+    let version = m2 .before .before in
+    let head = version .before .before in
+    rw (meta-children _ (rw (version .version .given .1) at (head .fullbox-header .ensures)) (m2 .match2 .keys1) (rw (seen .seen .given .1) at (children .children .ensures))) at (c .after .ensures)
 
 returns-4 : tie.Need-returns-4
-returns-4 c = meta-version _ (rw (c .before .before .version .given .1) at (c .before .before .before .before .fullbox-header .ensures)) (c .match2 .rest .1)
+returns-4 c =
+    let version = c .before .before in
+    let head = version .before .before in
+    meta-version _ (rw (version .version .given .1) at (head .fullbox-header .ensures)) (c .match2 .rest .1)
 
 pub parse-meta-spec : {M : Type 1} → statement M
 parse-meta-spec =

@@ -1,3 +1,4 @@
+-- By the type, as `boxOver` has it. A box that is skipped is below 2^63 bytes, so its end fits 64 bits.
 use native.Mathlib.Omega.{arith}
 use Rattle.rules.specs.Laws.Headers.{file-begins, file-small}
 use Rattle.isobmff.specs.Top.{boxOver, over-ftyp, over-meta, over-other}
@@ -30,13 +31,24 @@ unfolding boxOver
 returns c = rw (← c .before .before .before .file-box .ensures, c .before .e .given .1)
 
 returns-2 : tie.Need-returns-2
-returns-2 c = over-ftyp _ _ _ _ _ _ (rw (c .before .before .before .kind .given .1) at (c .before .before .before .before .before .file-box .ensures)) (c .before .match2 .keys1) (c .read-ftyp .ensures)
+returns-2 c =
+    let m2 = c .before in
+    let kind = m2 .before .before in
+    let box = kind .before .before in
+    over-ftyp _ _ _ _ _ _ (rw (kind .kind .given .1) at (box .file-box .ensures)) (m2 .match2 .keys1) (c .read-ftyp .ensures)
 
 returns-3 : tie.Need-returns-3
-returns-3 c = over-meta _ _ _ _ _ _ (rw (c .before .before .before .kind .given .1) at (c .before .before .before .before .before .file-box .ensures)) (c .before .match2 .keys2) (c .read-meta .ensures)
+returns-3 c =
+    let m2 = c .before in
+    let kind = m2 .before .before in
+    let box = kind .before .before in
+    over-meta _ _ _ _ _ _ (rw (kind .kind .given .1) at (box .file-box .ensures)) (m2 .match2 .keys2) (c .read-meta .ensures)
 
 returns-4 : tie.Need-returns-4
-returns-4 c = over-other _ _ _ _ _ _ (rw (c .before .before .kind .given .1) at (c .before .before .before .before .file-box .ensures)) (c .match2 .rest .0 .1) (c .match2 .rest .1)
+returns-4 c =
+    let kind = c .before .before in
+    let box = kind .before .before in
+    over-other _ _ _ _ _ _ (rw (kind .kind .given .1) at (box .file-box .ensures)) (c .match2 .rest .0 .1) (c .match2 .rest .1)
 
 pub file-level-box-spec : {M : Type 1} → statement M
 file-level-box-spec =

@@ -1,3 +1,4 @@
+-- The boxes from `at` on decide the answer, given whether an `ftyp` was met before; a box that is passed leads forward.
 use mathlib.Core.Path.{_≡_}
 use Prim.Native.Nat.{_-_}
 use native.Mathlib.Omega.{arith}
@@ -23,13 +24,23 @@ enum-known-e : tie.Need-enum-known-e Inv-loop μ-loop
 enum-known-e c = search needs
 
 returns : tie.Need-returns Inv-loop μ-loop
-returns c = lead-next _ _ _ (c .before .before .before .before .before .loop .inv) (c .before .before .before .before .loop-test .taken) (rw (c .before .e .given .1) at (c .before .before .before .file-level-box .ensures))
+returns c =
+    let e = c .before in
+    let box = e .before .before in
+    let test = box .before in
+    let turn = test .before in
+    lead-next _ _ _ (turn .loop .inv) (test .loop-test .taken) (rw (e .e .given .1) at (box .file-level-box .ensures))
 
 enum-known-from : tie.Need-enum-known-from Inv-loop μ-loop
 enum-known-from c = search needs
 
 returns-2 : tie.Need-returns-2 Inv-loop μ-loop
-returns-2 c = lead-next _ _ _ (c .before .before .before .before .before .loop .inv) (c .before .before .before .before .loop-test .taken) (rw (c .before .from .given .1) at (c .before .before .before .file-level-box .ensures))
+returns-2 c =
+    let f = c .before in
+    let box = f .before .before in
+    let test = box .before in
+    let turn = test .before in
+    lead-next _ _ _ (turn .loop .inv) (test .loop-test .taken) (rw (f .from .given .1) at (box .file-level-box .ensures))
 
 enum-known-checked : tie.Need-enum-known-checked Inv-loop μ-loop
 enum-known-checked c = search needs
@@ -38,7 +49,12 @@ loop-less : tie.Need-loop-less Inv-loop μ-loop
 loop-less c = omega (arith, on-ahead _ _ _ (rw (c .before .checked .given .1) at (c .before .before .before .file-level-box .ensures)))
 
 loop-again : tie.Need-loop-again Inv-loop μ-loop
-loop-again c = lead-next _ _ _ (c .before .before .before .before .before .loop .inv) (c .before .before .before .before .loop-test .taken) (rw (c .before .checked .given .1) at (c .before .before .before .file-level-box .ensures))
+loop-again c =
+    let checked = c .before in
+    let box = checked .before .before in
+    let test = box .before in
+    let turn = test .before in
+    lead-next _ _ _ (turn .loop .inv) (test .loop-test .taken) (rw (checked .checked .given .1) at (box .file-level-box .ensures))
 
 returns-3 : tie.Need-returns-3 Inv-loop μ-loop
 returns-3 c = lead-done _ _ _ (c .before .loop .inv) (c .loop-test .left)

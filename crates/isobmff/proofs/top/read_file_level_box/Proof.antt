@@ -1,3 +1,4 @@
+-- Each answer by its law in Top.
 use native.Mathlib.Omega.{arith}
 use Rattle.isobmff.specs.Top.{to-beyond, to-cut, to-whole}
 use borrow.Author.Needs.{needs}

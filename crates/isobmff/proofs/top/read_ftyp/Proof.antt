@@ -1,3 +1,4 @@
+-- Step after step as `ftypOver` has them; the body that is lent lies inside, since its end was given.
 use native.Mathlib.Omega.{arith}
 use Rattle.isobmff.specs.Top.{ftypOver, to-inside}
 use borrow.Author.Needs.{needs}
@@ -39,11 +40,20 @@ returns c = rw (← c .before .before .before .read-file-level-box .ensures, c .
 
 returns-2 : tie.Need-returns-2
 unfolding ftypOver
-returns-2 c = rw (← c .before .before .before .before .before .before .before .before .read-file-level-box .ensures, c .before .before .before .before .before .before .to .given .1, ← c .before .before .before .parse-ftyp .ensures, c .before .e2 .given .1)
+returns-2 c =
+    let e2 = c .before in
+    let tested = e2 .before .before in
+    let t = tested .before .before .before in
+    let body = t .before .before in
+    rw (← body .read-file-level-box .ensures, t .to .given .1, ← tested .parse-ftyp .ensures, e2 .e2 .given .1)
 
 returns-3 : tie.Need-returns-3
 unfolding ftypOver
-returns-3 c = rw (← c .before .before .before .before .before .before .before .read-file-level-box .ensures, c .before .before .before .before .before .to .given .1, ← c .before .before .parse-ftyp .ensures, c .enum-told .given .1)
+returns-3 c =
+    let tested = c .before .before in
+    let t = tested .before .before .before in
+    let body = t .before .before in
+    rw (← body .read-file-level-box .ensures, t .to .given .1, ← tested .parse-ftyp .ensures, c .enum-told .given .1)
 
 pub read-ftyp-spec : {M : Type 1} → statement M
 read-ftyp-spec =

@@ -1,4 +1,6 @@
-use Rattle.isobmff.specs.Top.{metaOver, not-true, not-false}
+-- Step after step as `metaOver` has them.
+use borrow.Author.Tests.{not-true, not-false}
+use Rattle.isobmff.specs.Top.{metaOver}
 use borrow.Author.Needs.{needs}
 use Rattle.isobmff.proofs.top.read_meta.Statement.{statement}
 use Rattle.isobmff.proofs.top.read_meta.Tie as tie
@@ -18,11 +20,21 @@ enum-known-to c = search needs
 
 returns-2 : tie.Need-returns-2
 unfolding metaOver
-returns-2 c = rw (not-false (c .before .before .before .before .before .before .args .ftyp-checked) (c .before .before .before .before .if1 .left), ← c .before .before .before .read-file-level-box .ensures, c .before .e .given .1)
+returns-2 c =
+    let e = c .before in
+    let body = e .before .before in
+    let if1 = body .before in
+    let args = if1 .before .before in
+    rw (not-false (args .args .ftyp-checked) (if1 .if1 .left), ← body .read-file-level-box .ensures, e .e .given .1)
 
 returns-3 : tie.Need-returns-3
 unfolding metaOver
-returns-3 c = rw (not-false (c .before .before .before .before .before .before .args .ftyp-checked) (c .before .before .before .before .if1 .left), ← c .before .before .before .read-file-level-box .ensures, c .before .to .given .1)
+returns-3 c =
+    let t = c .before in
+    let body = t .before .before in
+    let if1 = body .before in
+    let args = if1 .before .before in
+    rw (not-false (args .args .ftyp-checked) (if1 .if1 .left), ← body .read-file-level-box .ensures, t .to .given .1)
 
 pub read-meta-spec : {M : Type 1} → statement M
 read-meta-spec =

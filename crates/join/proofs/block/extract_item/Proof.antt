@@ -1,3 +1,4 @@
+-- What `parse_iloc` refuses is the answer; a location that it found was chosen, which is what the rest asks for.
 use borrow.Author.Needs.{needs}
 use Rattle.locations.specs.Located.{found-chose}
 use Rattle.join.specs.Methods.{item-refused, item-found}

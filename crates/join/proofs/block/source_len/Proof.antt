@@ -1,3 +1,4 @@
+-- By the method, as `source` has it.
 use borrow.Author.Tests.{ne-eqb}
 use Rattle.join.proofs.block.source_len.Statement.{statement}
 use Rattle.join.proofs.block.source_len.Tie as tie

@@ -3,11 +3,12 @@ use borrow.Author.Needs.{needs}
 use mathlib.Core.Path.{_≡_, refl, _∙_}
 use Prim.Native.Nat.{_-_}
 use lib.ListN.{length, drop}
-use Rattle.rules.specs.Laws.Gather.{gathered}
-use Rattle.rules.specs.Laws.Over.{overAt, over-stop, gather-done, gather-next}
+use lib.Seq.{sets}
+use Rattle.rules.specs.OverBytes.{gathered}
+use Rattle.rules.specs.Laws.Over.{gather-full, gather-done, gather-next}
 use Rattle.locations.specs.Told.{extentsOf}
 use Rattle.join.specs.Told.{source, liesBy, joinedOf}
-use Rattle.join.specs.Extents.{extents-end}
+use Rattle.join.specs.Answers.{extents-end}
 use Rattle.join.proofs.copy.gather.Statement.{statement}
 use Rattle.join.proofs.copy.gather.Tie as tie
 
@@ -15,8 +16,8 @@ abbrev Inv-loop : tie.InvT-loop
 Inv-loop image idat iloc location skip out₀ method base left₀ at₀ k₀ k-end out left at k =
     let s = source (location .entry .«construction_method») image idat in
     (length out ≡ length out₀)
-    × (overAt at (drop left (gathered (liesBy location (length s)) s (drop k (extentsOf iloc location)))) out
-    ≡ overAt 0 (drop skip (joinedOf image idat iloc location)) out₀)
+    × (sets out at (drop left (gathered (liesBy location (length s)) s (drop k (extentsOf iloc location))))
+    ≡ sets out₀ 0 (drop skip (joinedOf image idat iloc location)))
 
 abbrev μ-loop : tie.MeasureT-loop
 μ-loop image idat iloc location skip out₀ method base left₀ at₀ k₀ k-end out left at k = k-end - k
@@ -28,7 +29,9 @@ same-length : tie.Need-same-length Inv-loop μ-loop
 same-length c = search needs
 
 returns : tie.Need-returns Inv-loop μ-loop
-returns c = over-stop _ _ _ (c .before .before .loop .inv .1) (c .if1 .taken)
+returns c =
+    let l = c .before .before .loop in
+    gather-full _ _ _ _ (l .left) _ (l .inv .1) (c .if1 .taken)
 
 read-extent-requires : tie.Need-read-extent-requires Inv-loop μ-loop
 read-extent-requires c κs = (c .before .before .before .before .before .before .before .pre, c .before .loop-test .taken)

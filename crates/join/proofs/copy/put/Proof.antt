@@ -4,14 +4,15 @@ use mathlib.Core.Path.{_≡_, refl, sym, _∙_}
 use Prim.Native.Nat.{ℕ, _-_}
 use native.Mathlib.Omega.{arith}
 use lib.ListN.{length, drop, length-set, drop-of-length-le}
+use lib.Seq.{sets}
 use borrow.Author.Needs.{needs}
-use Rattle.rules.specs.Laws.Over.{overAt, over-full, over-more}
+use Rattle.rules.specs.Laws.Over.{over-full, over-more}
 use Rattle.join.proofs.copy.put.Statement.{statement}
 use Rattle.join.proofs.copy.put.Tie as tie
 
 abbrev Inv-loop : tie.InvT-loop
 Inv-loop part skip out₀ at i₀ o₀ out i o =
-    (length out ≡ length out₀) × ((rest : List ℕ) → overAt o (drop i part ++ rest) out ≡ overAt at (drop skip part ++ rest) out₀)
+    (length out ≡ length out₀) × ((rest : List ℕ) → sets out o (drop i part ++ rest) ≡ sets out₀ at (drop skip part ++ rest))
 
 abbrev μ-loop : tie.MeasureT-loop
 μ-loop part skip out₀ at i₀ o₀ out i o = length part - i
@@ -26,7 +27,8 @@ returns : tie.Need-returns Inv-loop μ-loop
 returns c =
     let l = c .before .before .loop in
     let s = c .before .before .before .args .part .now in
-    λ rest. over-full (l .o) rest (l .out) (c .if1 .taken) ∙ sym (over-full (l .o) (drop (l .i) s ++ rest) (l .out) (c .if1 .taken)) ∙ l .inv .1 rest
+    let full : (bs : List ℕ) → sets (l .out) (l .o) bs ≡ l .out = λ bs. over-full (l .out) (l .o) bs (c .if1 .taken) in
+    λ rest. full rest ∙ sym (full (drop (l .i) s ++ rest)) ∙ l .inv .1 rest
 
 shared-slice-read-out : tie.Need-shared-slice-read-out Inv-loop μ-loop
 shared-slice-read-out c = search needs
@@ -48,7 +50,7 @@ loop-again c =
     let t = c .before .before in
     let l = t .before .loop in
     let s = t .before .before .args .part .now in
-    (simp length-set (l .inv .0), λ rest. over-more (l .o) (l .i) s rest (l .out) (omega arith) (omega arith) ∙ l .inv .1 rest)
+    (simp length-set (l .inv .0), λ rest. over-more (l .out) (l .o) (l .i) s rest (omega arith) ∙ l .inv .1 rest)
 
 same-length-2 : tie.Need-same-length-2 Inv-loop μ-loop
 same-length-2 c = search needs

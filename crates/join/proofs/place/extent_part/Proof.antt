@@ -1,6 +1,7 @@
+-- The part of the slice that the method names: what is not refused ends inside it.
 use borrow.Author.Needs.{needs}
 use borrow.Author.Tests.{eq-eqb, ne-eqb}
-use Rattle.join.specs.Extents.{lies-ends}
+use Rattle.rules.specs.Laws.Places.{lies-inside}
 use Rattle.join.proofs.place.extent_part.Statement.{statement}
 use Rattle.join.proofs.place.extent_part.Tie as tie
 
@@ -8,13 +9,13 @@ extent-place-requires : tie.Need-extent-place-requires
 extent-place-requires c κs = search needs
 
 part-at-requires : tie.Need-part-at-requires
-part-at-requires c κs = search lies-ends
+part-at-requires c κs = rw (c .extent-place .ensures) (lies-inside _ _ _ _)
 
 extent-place-requires-2 : tie.Need-extent-place-requires-2
 extent-place-requires-2 c κs = search needs
 
 part-at-requires-2 : tie.Need-part-at-requires-2
-part-at-requires-2 c κs = search lies-ends
+part-at-requires-2 c κs = rw (c .extent-place2 .ensures) (lies-inside _ _ _ _)
 
 returns : tie.Need-returns
 returns c = let p = rw (c .before .extent-place .ensures) at (c .part-at .ensures) in rw (eq-eqb _ _ (c .before .before .match .keys1)) p

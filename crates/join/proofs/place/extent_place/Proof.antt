@@ -1,3 +1,4 @@
+-- 18 first; then the method decides which of the two asks (Laws/Places).
 use borrow.Author.Needs.{needs}
 use native.Mathlib.Omega.{arith}
 use Rattle.rules.specs.Laws.Places.{place-18, place-image, place-idat}

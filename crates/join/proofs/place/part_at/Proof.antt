@@ -3,7 +3,7 @@ use borrow.Author.Needs.{needs}
 use mathlib.Core.Path.{_≡_, ap}
 use Prim.Native.Nat.{_-_}
 use native.Mathlib.Omega.{arith}
-use Rattle.rules.specs.Laws.Gather.{partOf}
+use Rattle.rules.specs.OverBytes.{partOf}
 use Rattle.join.specs.Told.{placeOf}
 use Rattle.join.proofs.place.part_at.Statement.{statement}
 use Rattle.join.proofs.place.part_at.Tie as tie

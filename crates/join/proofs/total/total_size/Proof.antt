@@ -4,11 +4,11 @@ use mathlib.Core.Path.{_≡_, refl}
 use Prim.Native.Nat.{_-_, _≤_}
 use native.Mathlib.Omega.{arith}
 use lib.ListN.{drop}
-use Rattle.rules.specs.Laws.Gather.{totalFrom}
+use Rattle.rules.specs.OverBytes.{totalFrom}
 use Rattle.rules.specs.Laws.Totals.{added-below, total-done, total-stop, total-next}
 use Rattle.locations.specs.Told.{extentsOf}
 use Rattle.join.specs.Told.{liesBy}
-use Rattle.join.specs.Extents.{extents-end}
+use Rattle.join.specs.Answers.{extents-end}
 use Rattle.join.proofs.total.total_size.Statement.{statement}
 use Rattle.join.proofs.total.total_size.Tie as tie
 

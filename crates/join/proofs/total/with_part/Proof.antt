@@ -1,6 +1,7 @@
+-- One test for 24, by its two laws in Laws/Totals.
 use borrow.Author.Needs.{needs}
 use native.Mathlib.Omega.{arith}
-use Rattle.rules.specs.Laws.Gather.{added}
+use Rattle.rules.specs.OverBytes.{added}
 use Rattle.rules.specs.Laws.Totals.{added-over, added-more}
 use Rattle.join.proofs.total.with_part.Statement.{statement}
 use Rattle.join.proofs.total.with_part.Tie as tie

@@ -1,6 +1,6 @@
 -- Each read in turn; one that gave a number shows that the next place is in range.
 use native.Mathlib.Omega.{arith}
-use Rattle.locations.specs.Rows.{field-inside, id-refused, method-refused, reference-refused, external, internal}
+use Rattle.locations.specs.Reads.{field-inside, id-refused, method-refused, reference-refused, external, internal}
 use borrow.Author.Needs.{needs}
 use Rattle.locations.proofs.entry.parse_entry.Statement.{statement}
 use Rattle.locations.proofs.entry.parse_entry.Tie as tie
@@ -21,10 +21,14 @@ id-size-requires : tie.Need-id-size-requires
 id-size-requires c κs = search needs
 
 add-method-at : tie.Need-add-method-at
-add-method-at c = let i = field-inside _ _ _ (c .before .before .before .before .parse-id .ensures) (c .before .before .v .given .1) in omega arith
+add-method-at c =
+    let i = field-inside _ _ _ (c .before .before .before .before .parse-id .ensures) (c .before .before .v .given .1) in
+    omega arith
 
 parse-method-requires : tie.Need-parse-method-requires
-parse-method-requires c κs = rw (c .id-size .ensures .0) (field-inside _ _ _ (c .before .before .before .before .parse-id .ensures) (c .before .before .v .given .1))
+parse-method-requires c κs =
+    let k = c .before .before in
+    rw (c .id-size .ensures .0) (field-inside _ _ _ (k .before .before .parse-id .ensures) (k .v .given .1))
 
 enum-known-e-2 : tie.Need-enum-known-e-2
 enum-known-e-2 c = search needs
@@ -39,7 +43,9 @@ method-size-requires : tie.Need-method-size-requires
 method-size-requires c κs = search needs
 
 add-data-ref-at : tie.Need-add-data-ref-at
-add-data-ref-at c = let i = field-inside _ _ _ (c .before .before .before .before .parse-method .ensures) (c .before .before .v2 .given .1) in omega arith
+add-data-ref-at c =
+    let i = field-inside _ _ _ (c .before .before .before .before .parse-method .ensures) (c .before .before .v2 .given .1) in
+    omega arith
 
 uint16-requires : tie.Need-uint16-requires
 uint16-requires c κs = search needs
@@ -57,7 +63,9 @@ in-file-requires : tie.Need-in-file-requires
 in-file-requires c κs = search needs
 
 add-parse-base : tie.Need-add-parse-base
-add-parse-base c = let i = field-inside _ _ 2 (c .before .before .before .before .before .uint16 .ensures) (c .before .before .before .v3 .given .1) in omega arith
+add-parse-base c =
+    let i = field-inside _ _ 2 (c .before .before .before .before .before .uint16 .ensures) (c .before .before .before .v3 .given .1) in
+    omega arith
 
 parse-base-requires : tie.Need-parse-base-requires
 parse-base-requires c κs = search needs

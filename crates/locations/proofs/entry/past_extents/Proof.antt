@@ -1,5 +1,6 @@
 -- By the item, whether it has an extent, and the first one.
-use Rattle.locations.specs.Rows.{next-other, next-none, next-refused, next-whole}
+use native.Mathlib.Omega.{arith}
+use Rattle.locations.specs.Reads.{next-other, next-none, next-refused, next-whole}
 use borrow.Author.Needs.{needs}
 use Rattle.locations.proofs.entry.past_extents.Statement.{statement}
 use Rattle.locations.proofs.entry.past_extents.Tie as tie
@@ -8,10 +9,10 @@ skip-extents-requires : tie.Need-skip-extents-requires
 skip-extents-requires c κs = search needs
 
 returns : tie.Need-returns
-returns c = search next-other
+returns c = next-other _ _ _ _ (λ e. omega arith) (c .skip-extents .ensures)
 
 returns-2 : tie.Need-returns-2
-returns-2 c = next-none _ _ _ _ (c .before .before .if1 .left) (c .if2 .taken)
+returns-2 c = next-none _ _ _ _ (c .before .before .before .before .before .pre .1 .from) (c .if2 .taken)
 
 parse-extent-requires : tie.Need-parse-extent-requires
 parse-extent-requires c κs = search needs

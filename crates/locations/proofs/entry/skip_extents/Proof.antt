@@ -1,5 +1,5 @@
 -- The bytes of the extents are their count times the width, which 64 bits hold.
-use Rattle.locations.specs.Rows.{skip-room, skip-out, skip-in}
+use Rattle.locations.specs.Reads.{skip-room, skip-out, skip-in}
 use borrow.Author.Needs.{needs}
 use Rattle.locations.proofs.entry.skip_extents.Statement.{statement}
 use Rattle.locations.proofs.entry.skip_extents.Tie as tie
@@ -20,7 +20,9 @@ add-t5 : tie.Need-add-t5
 add-t5 c = search needs
 
 returns-2 : tie.Need-returns-2
-returns-2 c = skip-in _ _ _ (c .before .before .before .extent-size .ensures .0) (c .before .before .before .before .before .pre .1 .from) (c .before .if1 .left)
+returns-2 c =
+    let k = c .before .before .before in
+    skip-in _ _ _ (k .extent-size .ensures .0) (k .before .before .pre .1 .from) (c .before .if1 .left)
 
 pub skip-extents-spec : {M : Type 1} → statement M
 skip-extents-spec =

@@ -1,6 +1,6 @@
 -- Each read in turn; one that gave a number shows that the next place is in range.
 use native.Mathlib.Omega.{arith}
-use Rattle.locations.specs.Rows.{sized-inside, index-refused, offset-refused, length-refused, extent-got}
+use Rattle.locations.specs.Reads.{sized-inside, index-refused, offset-refused, length-refused, extent-got}
 use borrow.Author.Needs.{needs}
 use Rattle.locations.proofs.extent.parse_extent.Statement.{statement}
 use Rattle.locations.proofs.extent.parse_extent.Tie as tie
@@ -18,7 +18,9 @@ enum-told : tie.Need-enum-told
 enum-told c = search needs
 
 add-offset-at : tie.Need-add-offset-at
-add-offset-at c = let i = sized-inside _ _ _ 12 (c .before .before .before .size048 .ensures) (c .before .enum-told .given .1) in omega arith
+add-offset-at c =
+    let i = sized-inside _ _ _ 12 (c .before .before .before .size048 .ensures) (c .before .enum-told .given .1) in
+    omega arith
 
 size048-requires-2 : tie.Need-size048-requires-2
 size048-requires-2 c κs = search needs
@@ -33,7 +35,9 @@ enum-known-v : tie.Need-enum-known-v
 enum-known-v c = search needs
 
 add-length-at : tie.Need-add-length-at
-add-length-at c = let i = sized-inside _ _ _ 13 (c .before .before .before .before .size0482 .ensures) (c .before .before .v .given .1) in omega arith
+add-length-at c =
+    let i = sized-inside _ _ _ 13 (c .before .before .before .before .size0482 .ensures) (c .before .before .v .given .1) in
+    omega arith
 
 size048-requires-3 : tie.Need-size048-requires-3
 size048-requires-3 c κs = search needs

@@ -23,7 +23,9 @@ returns-2 : tie.Need-returns-2
 returns-2 c = rw (c .before .match .keys2) (c .loadu32 .ensures)
 
 returns-3 : tie.Need-returns-3
-returns-3 c = rw (must-be-8 (c .before .before .before .pre .0) (c .before .match .rest .0 .1) (c .before .match .rest .1)) (c .loadu64 .ensures)
+returns-3 c =
+    let k = c .before in
+    rw (must-be-8 (k .before .before .pre .0) (k .match .rest .0 .1) (k .match .rest .1)) (c .loadu64 .ensures)
 
 pub read-again-spec : {M : Type 1} → statement M
 read-again-spec =

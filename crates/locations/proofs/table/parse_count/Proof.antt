@@ -1,6 +1,6 @@
 -- The count's read, and the widths.
 use Rattle.rules.specs.Doc.Iloc.{sizesOf, baseSizeOf}
-use Rattle.locations.specs.Rows.{counted}
+use Rattle.locations.specs.Reads.{tableFrom}
 use borrow.Author.Needs.{needs}
 use Rattle.locations.proofs.table.parse_count.Statement.{statement}
 use Rattle.locations.proofs.table.parse_count.Tie as tie
@@ -24,12 +24,14 @@ add-t19 : tie.Need-add-t19
 add-t19 c = search needs
 
 returns : tie.Need-returns
-unfolding counted
+unfolding tableFrom
 returns c = rw (← c .before .before .before .parse-id .ensures, c .before .e .given .1)
 
 returns-2 : tie.Need-returns-2
-unfolding counted baseSizeOf sizesOf
-returns-2 c = rw (← c .before .before .before .before .before .parse-id .ensures, c .before .before .before .item-count .given .1, c .id-size .ensures .0, c .before .index-size .ensures)
+unfolding tableFrom baseSizeOf sizesOf
+returns-2 c =
+    let k = c .before .before .before in
+    rw (← k .before .before .parse-id .ensures, k .item-count .given .1, c .id-size .ensures .0, c .before .index-size .ensures)
 
 pub parse-count-spec : {M : Type 1} → statement M
 parse-count-spec =

@@ -1,5 +1,5 @@
 -- The two reads in turn, and the version's own arm.
-use Rattle.locations.specs.Rows.{version-refused, halves-refused, version-known, version-other}
+use Rattle.locations.specs.Reads.{version-refused, halves-refused, version-known, version-other}
 use borrow.Author.Needs.{needs}
 use Rattle.locations.proofs.table.parse_head.Statement.{statement}
 use Rattle.locations.proofs.table.parse_head.Tie as tie

@@ -1,14 +1,14 @@
--- The parts of document 01's rows that have a function of their own.
-use mathlib.Core.Path.{_≡_, sym, ap, _∙_}
+-- What each function says, from what its reads say.
+use mathlib.Core.Path.{_≡_, refl, sym, ap, _∙_}
 use mathlib.Core.Bool.{Bool, true, false}
 use mathlib.Core.List.{List}
 use Prim.Native.Nat.{ℕ, _+_, _-_, _*_, _%_, _^_, _≤_, _<_}
 use native.Mathlib.Nat.{mul-le-mul, le-of-lt, zero-mul, add-zero}
 use native.Mathlib.Omega.{arith}
 use lib.ListN.{length}
-use lib.Dec.{leb}
+use lib.Dec.{leb, eqb}
 use borrow.Author.Tests.{le-leb, lt-leb, eq-eqb, ne-eqb}
-use Rattle.rules.specs.Doc.Outcomes.{Outcome, fine, refused, _>>=_, require}
+use Rattle.rules.specs.Doc.Outcomes.{if_then_else_, Outcome, fine, refused, _>>=_, require}
 use Rattle.rules.specs.Doc.Bytes.{field, sized, version}
 use Rattle.rules.specs.Doc.Iloc.{Sizes, Table, idSize, sizesOf, baseSizeOf, tableOf, methodSize, inFile, Entry, entryAt}
 use Rattle.rules.specs.Doc.Iloc.{Extent, extentWidth, extentAt, extents, isWanted, entryEnd, extentsTest, entryNext}
@@ -20,9 +20,11 @@ use Rattle.boxes.specs.declared.refusal.Refusal.{Refusal}
 use Rattle.boxes.specs.declared.field.Number.{Number}
 use Rattle.boxes.specs.declared.field.Number.the-variants.{Got, Refused}
 
+-- ---- The parts of a definition that have a function of their own
+
 -- of `tableOf`, from the count of entries on
-unfoldable pub counted : List ℕ → ℕ → ℕ → Outcome Table
-counted body v halves = do
+unfoldable pub tableFrom : List ℕ → ℕ → ℕ → Outcome Table
+tableFrom body v halves = do
   n ← field body 6 (idSize v)
   fine (record { version = v; sizes = sizesOf v halves; baseSize = baseSizeOf halves; count = n; from = 6 + idSize v })
 
@@ -59,8 +61,8 @@ module _ (body : List ℕ) {a : Number} (ea : fieldOf a ≡ version body 0) wher
     halves-refused gb = rw (← ea, ga, ← eb, gb)
 
     module _ {halves : ℕ} (gb : b ≡ Got halves) where
-      pub version-known : {o : Outcome Table} → v < 3 → o ≡ counted body v halves → o ≡ tableOf body
-      unfolding tableOf counted
+      pub version-known : {o : Outcome Table} → v < 3 → o ≡ tableFrom body v halves → o ≡ tableOf body
+      unfolding tableOf tableFrom
       version-known k h = rw (← ea, ga, ← eb, gb, le-leb v 2 (omega arith)) h
 
       pub version-other : 3 ≤ v → refused 10 ≡ tableOf body
@@ -151,18 +153,22 @@ module _ (t : Table) (body : List ℕ) (e : Entry) where
     unfolding skipped entryNext extentsTest isWanted
     next-other h k = rw (ne-eqb (e .id) wanted h) k
 
-    module _ (same : e .id ≡ wanted) where
-      pub next-none : e .count ≡ 0 → fine (e .from) ≡ entryNext t body wanted e
-      unfolding entryNext extentsTest isWanted extents run bare outcome entryEnd
-      next-none h = rw (eq-eqb (e .id) wanted same, h, zero-mul, add-zero)
+    -- without an extent, of whichever item
+    pub next-none : e .from ≤ length body → e .count ≡ 0 → fine (e .from) ≡ entryNext t body wanted e
+    unfolding entryNext extentsTest isWanted extents run bare outcome entryEnd
+    next-none k h = rw (h, zero-mul, add-zero, le-leb (e .from) (length body) k) (go (eqb (e .id) wanted))
+      where
+        go : (t : Bool) → fine (e .from) ≡ ((if t then fine (tt {0}) else fine tt) >>= λ u. fine (e .from))
+        go true = refl
+        go false = refl
 
-      -- the first extent decides
-      module _ (some : e .count ≡ 0 → ⊥) where
-        pub next-refused : {n : ℕ} → refused n ≡ extentAt (t .sizes) body (e .from) → refused n ≡ entryNext t body wanted e
-        unfolding entryNext extentsTest isWanted extents
-        next-refused h = rw (eq-eqb (e .id) wanted same, first-decides (t .sizes) body (e .count) (e .from) some, ← h)
+    -- of the wanted item: the first extent decides
+    module _ (same : e .id ≡ wanted) (some : e .count ≡ 0 → ⊥) where
+      pub next-refused : {n : ℕ} → refused n ≡ extentAt (t .sizes) body (e .from) → refused n ≡ entryNext t body wanted e
+      unfolding entryNext extentsTest isWanted extents
+      next-refused h = rw (eq-eqb (e .id) wanted same, first-decides (t .sizes) body (e .count) (e .from) some, ← h)
 
-        pub next-whole : {x : Extent} {o : Outcome ℕ} → fine x ≡ extentAt (t .sizes) body (e .from)
-            → o ≡ skipped t body e → o ≡ entryNext t body wanted e
-        unfolding entryNext extentsTest isWanted extents entryEnd skipped
-        next-whole h k = rw (eq-eqb (e .id) wanted same, first-decides (t .sizes) body (e .count) (e .from) some, ← h) k
+      pub next-whole : {x : Extent} {o : Outcome ℕ} → fine x ≡ extentAt (t .sizes) body (e .from)
+          → o ≡ skipped t body e → o ≡ entryNext t body wanted e
+      unfolding entryNext extentsTest isWanted extents entryEnd skipped
+      next-whole h k = rw (eq-eqb (e .id) wanted same, first-decides (t .sizes) body (e .count) (e .from) some, ← h) k
