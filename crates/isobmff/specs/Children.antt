@@ -1,7 +1,7 @@
 -- The children of `meta`, one after another, and what they leave: what the loop follows.
 use mathlib.Core.Path.{_≡_, refl, sym, _∙_}
 use mathlib.Core.Bool.{Bool, true, false}
-use mathlib.Core.Option.{Option, none, some}
+use mathlib.Core.Option.{Option, none, some, Option·map}
 use mathlib.Core.List.{List, [], _∷_}
 use Prim.Native.Nat.{ℕ, _-_, _≤_, _<_}
 use lib.ListN.{length}
@@ -19,7 +19,7 @@ use Rattle.rules.specs.Laws.Rows.{bind-assoc}
 use Rattle.rules.specs.Laws.Numbers.{bytes-in}
 use Rattle.rules.specs.Laws.Headers.{child-inside}
 use Rattle.rules.specs.Laws.Fold.{folded, leaves, readNext, children-next, children-done}
-use Rattle.rules.specs.Laws.Last.{mapped, keep, kept-last, feed, feed-each}
+use Rattle.rules.specs.Laws.Last.{keep, kept-last, feed, feed-each}
 use Rattle.items.specs.Wanted.{iinfOver, wants, iinf-folded}
 use Rattle.isobmff.specs.Told.{State}
 
@@ -125,19 +125,19 @@ last-body : (k : ℕ) (bs : List Box) → folded (keep (is k) (λ b. b .body)) n
 unfolding lastBody bodyIn
 last-body k bs = kept-last (is k) (λ b. b .body) bs ∙ go (lastOf (only (is k) bs))
   where
-    go : (o : Option Box) → mapped (λ b. b .body) o ≡ bodyIn o
+    go : (o : Option Box) → Option·map (λ b. b .body) o ≡ bodyIn o
     go none = refl
     go (some b) = refl
 
 last-item : (body : List ℕ) (bs : List Box)
-    → folded (feed wants (is iinf) (λ b. items (bytesIn body (b .body)))) none bs ≡ mapped (λ i. i .id) (wantedItem body bs)
+    → folded (feed wants (is iinf) (λ b. items (bytesIn body (b .body)))) none bs ≡ Option·map (λ i. i .id) (wantedItem body bs)
 unfolding wantedItem allItems wants
 last-item body bs =
     feed-each wants (is iinf) (λ b. items (bytesIn body (b .body))) none bs ∙ kept-last isExif (λ i. i .id) (allItems body bs)
 
 concluded : (i : Option Item) (t d : Option Span)
     → (given i 1 >>= λ i. given t 16 >>= λ t. fine (record { wanted = i .id; iloc = t; idat = d }))
-    ≡ afterwards (record { wanted = mapped (λ i. i .id) i; iloc = t; idat = d })
+    ≡ afterwards (record { wanted = Option·map (λ i. i .id) i; iloc = t; idat = d })
 unfolding afterwards
 concluded none t d = refl
 concluded (some i) none d = refl

@@ -1,7 +1,7 @@
 -- The wanted id: what an `infe`, a box of an `iinf` and a whole `iinf` leave of it.
 use mathlib.Core.Path.{_≡_, refl, sym, ap, _∙_}
 use mathlib.Core.Bool.{Bool, true, false}
-use mathlib.Core.Option.{Option, some}
+use mathlib.Core.Option.{Option, some, Option·map}
 use mathlib.Core.List.{List, [], _∷_}
 use Prim.Native.Nat.{ℕ, suc, _+_, _-_, _≤_, _<_}
 use native.Mathlib.Omega.{arith}
@@ -17,7 +17,7 @@ use Rattle.rules.specs.Doc.Iinf.{Count, countSize, infoCount, infoLevel, infos,
 use Rattle.rules.specs.Laws.Numbers.{bytes-in}
 use Rattle.rules.specs.Laws.Headers.{child-inside}
 use Rattle.rules.specs.Laws.Fold.{folded, leaves, readNext, counted-children-next, counted-children-done}
-use Rattle.rules.specs.Laws.Last.{orElse, mapped, keep, keep-last, feed, feed-each}
+use Rattle.rules.specs.Laws.Last.{orElse, keep, keep-last, feed, feed-each}
 use Rattle.boxes.specs.Told.{number, fieldOf}
 use Rattle.boxes.specs.declared.refusal.Refusal.{Refusal}
 use Rattle.boxes.specs.declared.field.Number.{Number}
@@ -31,7 +31,7 @@ infeOver body w = item body >>= λ i. fine (if isExif i then some (i .id) else w
 
 -- the id of the last Exif item
 abbrev lastId : List Item → Option ℕ
-lastId xs = mapped (λ i. i .id) (lastOf (only isExif xs))
+lastId xs = Option·map (λ i. i .id) (lastOf (only isExif xs))
 
 -- one `iinf`: the last of its Exif items wins, over what was wanted before it too
 unfoldable pub iinfOver : List ℕ → Option ℕ → Outcome (Option ℕ)

@@ -2,7 +2,7 @@
 use mathlib.Core.Path.{_≡_, refl, sym, ap, _∙_, subst}
 use mathlib.Core.Logic.{_⊎_, inl, inr}
 use mathlib.Core.Bool.{Bool, true, false}
-use mathlib.Core.Option.{Option, none, some}
+use mathlib.Core.Option.{Option, none, some, Option·none-ne-some, map-id}
 use mathlib.Core.List.{List}
 use Prim.Native.Nat.{ℕ, zero, suc, _+_, _-_, _%_, _≤_, _<_}
 use native.Mathlib.Omega.{arith}
@@ -17,8 +17,7 @@ use Rattle.rules.specs.Doc.Iloc.{extents, isWanted, entryEnd, extentsTes
 use Rattle.rules.specs.Laws.Rows.{apart, bind-fine, bind-cong}
 use Rattle.rules.specs.Laws.Numbers.{Bytes, number-below}
 use Rattle.rules.specs.Laws.Fold.{folded}
-use Rattle.rules.specs.Laws.Last.{orElse, keep, kept-last, keep-or, mapped-same}
-use Rattle.rules.specs.Laws.Lies.{not-there}
+use Rattle.rules.specs.Laws.Last.{orElse, keep, kept-last, keep-or}
 use Rattle.rules.specs.Laws.Fields.{Stands, field-stands}
 use Rattle.rules.specs.Laws.Extents.{Small, Kth, extents-length, extents-kth}
 
@@ -53,7 +52,7 @@ module _ (t : Table) (body : List ℕ) (wanted : ℕ) where
   chosen-all =
       let w = entries t body wanted in
       let last = lastOf (only (isWanted wanted) (w .list)) in
-      bind-cong (outcome (w .end)) (λ u. ap (asChosen t) (kept-last (isWanted wanted) (λ e. e) (w .list) ∙ mapped-same last))
+      bind-cong (outcome (w .end)) (λ u. ap (asChosen t) (kept-last (isWanted wanted) (λ e. e) (w .list) ∙ ap (λ (f : Option Entry → Option Entry). f last) map-id))
 
   chosen-done : (o : Option Entry) (at : ℕ) → chosenFrom o 0 at ≡ asChosen t o
   unfolding chosenFrom run bare outcome folded
@@ -146,7 +145,7 @@ module _ (body : List ℕ) (c : Chosen) (h : Chose body c) where
       rw same (go (t .sizes) r)
     where
       go : (z : Sizes) → (none ≡ some (c .entry)) ⊎ Passed z body (c .entry) → Passed z body (c .entry)
-      go z (inl e) = absurd (not-there e)
+      go z (inl e) = absurd (Option·none-ne-some _ e)
       go z (inr p) = p
 
   pub chose-length : length (extents (c .sizes) body (c .entry) .list) ≡ c .entry .count

@@ -1,7 +1,7 @@
 -- "The last one is kept": what is said over a whole list equals a state that each thing of the list changes in its turn.
 use mathlib.Core.Path.{_≡_, refl, sym, ap, _∙_}
 use mathlib.Core.Bool.{Bool, true, false}
-use mathlib.Core.Option.{Option, none, some}
+use mathlib.Core.Option.{Option, none, some, Option·map}
 use mathlib.Core.List.{List, [], _∷_, _++_}
 use Rattle.rules.specs.Doc.Outcomes.{if_then_else_}
 use Rattle.rules.specs.Doc.Lists.{only, lastOf, each}
@@ -11,10 +11,6 @@ use Rattle.rules.specs.Laws.Fold.{folded}
 abbrev pub orElse : {A : Type 0} → Option A → Option A → Option A
 orElse none d = d
 orElse (some x) d = some x
-
-abbrev pub mapped : {A B : Type 0} → (A → B) → Option A → Option B
-mapped f none = none
-mapped f (some x) = some (f x)
 
 -- keep the last one of which p holds
 unfoldable pub keep : {A B : Type 0} → (A → Bool) → (A → B) → Option B → A → Option B
@@ -32,20 +28,20 @@ last-cons x [] = refl
 last-cons x (y ∷ ys) = last-there x y ys
 
 module _ {A B : Type 0} (p : A → Bool) (r : A → B) where
-  or-mapped : (o : Option A) (x : A) (d : Option B) → orElse (mapped r (orElse o (some x))) d ≡ orElse (mapped r o) (some (r x))
-  or-mapped none x d = refl
-  or-mapped (some y) x d = refl
+  or-Option·map : (o : Option A) (x : A) (d : Option B) → orElse (Option·map r (orElse o (some x))) d ≡ orElse (Option·map r o) (some (r x))
+  or-Option·map none x d = refl
+  or-Option·map (some y) x d = refl
 
   -- the last of what is still to come, else what the state holds
-  pub keep-last : (d : Option B) (xs : List A) → folded (keep p r) d xs ≡ orElse (mapped r (lastOf (only p xs))) d
+  pub keep-last : (d : Option B) (xs : List A) → folded (keep p r) d xs ≡ orElse (Option·map r (lastOf (only p xs))) d
   unfolding folded only keep lastOf
   keep-last d [] = refl
   keep-last d (x ∷ xs) = keep-last (keep p r d x) xs ∙ go (p x)
     where
       go : (q : Bool)
-          → orElse (mapped r (lastOf (only p xs))) (if q then some (r x) else d)
-          ≡ orElse (mapped r (lastOf (if q then x ∷ only p xs else only p xs))) d
-      go true = sym (or-mapped (lastOf (only p xs)) x d) ∙ ap (λ (o : Option A). orElse (mapped r o) d) (sym (last-cons x (only p xs)))
+          → orElse (Option·map r (lastOf (only p xs))) (if q then some (r x) else d)
+          ≡ orElse (Option·map r (lastOf (if q then x ∷ only p xs else only p xs))) d
+      go true = sym (or-Option·map (lastOf (only p xs)) x d) ∙ ap (λ (o : Option A). orElse (Option·map r o) d) (sym (last-cons x (only p xs)))
       go false = refl
 
 or-none : {A : Type 0} (o : Option A) → orElse o none ≡ o
@@ -53,8 +49,8 @@ or-none none = refl
 or-none (some x) = refl
 
 -- from nothing, it is the last of the list
-pub kept-last : {A B : Type 0} (p : A → Bool) (r : A → B) (xs : List A) → folded (keep p r) none xs ≡ mapped r (lastOf (only p xs))
-kept-last p r xs = keep-last p r none xs ∙ or-none (mapped r (lastOf (only p xs)))
+pub kept-last : {A B : Type 0} (p : A → Bool) (r : A → B) (xs : List A) → folded (keep p r) none xs ≡ Option·map r (lastOf (only p xs))
+kept-last p r xs = keep-last p r none xs ∙ or-none (Option·map r (lastOf (only p xs)))
 
 -- the same, as the first of two that is there
 pub keep-or : {A : Type 0} (p : A → Bool) (o : Option A) (x : A) → orElse (if p x then some x else none) o ≡ keep p (λ x. x) o x
@@ -64,10 +60,6 @@ keep-or p o x = go (p x)
     go : (t : Bool) → orElse (if t then some x else none) o ≡ (if t then some x else o)
     go true = refl
     go false = refl
-
-pub mapped-same : {A : Type 0} (o : Option A) → mapped (λ x. x) o ≡ o
-mapped-same none = refl
-mapped-same (some x) = refl
 
 folded-append : {S A : Type 0} (f : S → A → S) (st : S) (xs ys : List A) → folded f st (xs ++ ys) ≡ folded f (folded f st xs) ys
 unfolding folded

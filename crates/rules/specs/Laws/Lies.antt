@@ -3,7 +3,7 @@ use mathlib.Core.Path.{_≡_, refl, sym, _∙_}
 use Prim.Native.Nat.{ℕ, zero, suc, _+_, _-_, _≤_}
 use native.Mathlib.Omega.{arith}
 use mathlib.Core.Bool.{Bool, true, false}
-use mathlib.Core.Option.{Option, none, some}
+use mathlib.Core.Option.{Option, none, some, Option·none-ne-some}
 use mathlib.Core.List.{List, [], _∷_}
 use lib.ListN.{length}
 use lib.Dec.{leb, eqb}
@@ -24,9 +24,6 @@ use Rattle.rules.specs.Laws.Headers.{whole-fits}
 use Rattle.rules.specs.Laws.Rows.{apart, bind-fine}
 
 -- ---- Boxes of a walk
-
-pub not-there : {A : Type 0} {x : A} → none ≡ some x → ⊥
-not-there e = let z : _≡_ {A = ℕ} 0 1 = cc in omega arith
 
 -- a body that lies in n bytes
 pub record Lies (n : ℕ) (p : Span) : Type 0 where
@@ -74,7 +71,7 @@ module _ {A : Type 0} (P : A → Type 0) where
 
   last-all : (xs : List A) {x : A} → All P xs → lastOf xs ≡ some x → P x
   unfolding lastOf
-  last-all [] a e = absurd (not-there e)
+  last-all [] a e = absurd (Option·none-ne-some _ e)
   last-all (y ∷ []) {x} a e =
       let k : x ≡ y = cc in
       rw k (a .0)
@@ -112,7 +109,7 @@ module _ (o : ℕ → Bool) (t : List ℕ → Outcome (Unit {0})) (s : List ℕ)
 
 in-list : (body : List ℕ) (o : Option Box) (d : Span) → ((b : Box) → o ≡ some b → Lies (length body) (b .body)) → bodyIn o ≡ some d → Lies (length body) d
 unfolding bodyIn
-in-list body none d p e = absurd (not-there e)
+in-list body none d p e = absurd (Option·none-ne-some _ e)
 in-list body (some b) d p e =
     let k : d ≡ b .body = cc in
     rw k (p b refl)
@@ -220,7 +217,7 @@ plan-idat origin body p e =
 
 moved-lies : (origin n : ℕ) (o : Option Span) (d : Span) → ((q : Span) → o ≡ some q → origin + q .to ≤ n) → movedOption origin o ≡ some d → d .to ≤ n
 unfolding movedOption moved
-moved-lies origin n none d p e = absurd (not-there e)
+moved-lies origin n none d p e = absurd (Option·none-ne-some _ e)
 moved-lies origin n (some q) d p e =
     let k : d ≡ record { from = origin + q .from; to = origin + q .to } = cc in
     rw k (p q refl)
