@@ -25,13 +25,13 @@ use Rattle.isobmff.specs.Told.{State}
 
 -- ---- Definitions
 
--- what a child makes of the state: `iinf` is read as it is met, of `iloc` and `idat` the last one is kept
+-- the state with a child more: the wanted id, and of `iloc` and `idat` the last one
+abbrev leftBy : State → Box → Option ℕ → State
+leftBy st b w = record { wanted = w; iloc = keep (is iloc) (λ b. b .body) (st .iloc) b; idat = keep (is idat) (λ b. b .body) (st .idat) b }
+
+-- what a child makes of the state: `iinf` is read as it is met
 unfoldable pub sees : List ℕ → State → Box → State
-sees body st b = record {
-  wanted = feed wants (is iinf) (λ b. items (bytesIn body (b .body))) (st .wanted) b;
-  iloc = keep (is iloc) (λ b. b .body) (st .iloc) b;
-  idat = keep (is idat) (λ b. b .body) (st .idat) b;
-}
+sees body st b = leftBy st b (feed wants (is iinf) (λ b. items (bytesIn body (b .body))) (st .wanted) b)
 
 -- before any child
 abbrev pub nothing : State
@@ -44,12 +44,11 @@ childrenFrom body at st = leaves (sees body) st (boxes metaLevel body at)
 unfoldable pub childrenOver : List ℕ → Outcome State
 childrenOver body = leaves (sees body) nothing (children body)
 
--- one child, read as it is met
+-- one child, read as it is met (where it starts, here 0, has no say)
 unfoldable pub childOver : List ℕ → ℕ → ℕ → ℕ → State → Outcome State
 childOver body kind from to st = do
   w ← if isKind iinf kind then iinfOver (part body from (to - from)) (st .wanted) else fine (st .wanted)
-  let b = boxOf 0 kind from to
-  fine (record { wanted = w; iloc = keep (is iloc) (λ b. b .body) (st .iloc) b; idat = keep (is idat) (λ b. b .body) (st .idat) b })
+  fine (leftBy st (boxOf 0 kind from to) w)
 
 -- after the children: no wanted id is 1; no `iloc` is 16
 unfoldable pub afterwards : State → Outcome Kept
@@ -65,7 +64,7 @@ module _ (body : List ℕ) where
   abbrev reads : State → Box → Outcome State
   reads st b = do
     w ← if is iinf b then iinfOver (bytesIn body (b .body)) (st .wanted) else fine (st .wanted)
-    fine (record { wanted = w; iloc = keep (is iloc) (λ b. b .body) (st .iloc) b; idat = keep (is idat) (λ b. b .body) (st .idat) b })
+    fine (leftBy st b w)
 
   -- that refuses what the level's test refuses, and else does what the fold does
   reads-agree : (st : State) (b : Box) → reads st b ≡ (tested (inside (isKind iinf) infoTest) body b >>= λ u. fine (sees body st b))
@@ -75,12 +74,10 @@ module _ (body : List ℕ) where
       s : List ℕ
       s = bytesIn body (b .body)
 
-      make : Option ℕ → State
-      make w = record { wanted = w; iloc = keep (is iloc) (λ b. b .body) (st .iloc) b; idat = keep (is idat) (λ b. b .body) (st .idat) b }
-
-      go : (t : Bool) → ((if t then iinfOver (bytesIn body (b .body)) (st .wanted) else fine (st .wanted)) >>= λ w. fine (make w))
-          ≡ ((if t then infoTest (bytesIn body (b .body)) else fine tt) >>= λ u. fine (make (if t then folded wants (st .wanted) (items (bytesIn body (b .body))) else st .wanted)))
-      go true = rw (iinf-folded s (st .wanted)) (bind-assoc (infoTest s) (λ u. fine (folded wants (st .wanted) (items s))) (λ w. fine (make w)))
+      go : (t : Bool) → ((if t then iinfOver (bytesIn body (b .body)) (st .wanted) else fine (st .wanted)) >>= λ w. fine (leftBy st b w))
+          ≡ ((if t then infoTest (bytesIn body (b .body)) else fine tt)
+          >>= λ u. fine (leftBy st b (if t then folded wants (st .wanted) (items (bytesIn body (b .body))) else st .wanted)))
+      go true = rw (iinf-folded s (st .wanted)) (bind-assoc (infoTest s) (λ u. fine (folded wants (st .wanted) (items s))) (λ w. fine (leftBy st b w)))
       go false = refl
 
 -- in the loop: `r` is what all children leave, and those from `at` on decide it

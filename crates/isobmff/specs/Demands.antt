@@ -52,7 +52,8 @@ module _ (img out after : List ℕ) where
           let z : 0 ≡ answer img out .length = ap (λ (a : Answer). a .length) meets in
           omega (arith, needs-length img out h)
 
-  -- Every image, with an output buffer of every length, gets an answer: the block's length, or one refusal by number.
+  -- Every image, with an output buffer of every length, gets an answer: the block's length, or one refusal by number. (That a call ends with one is
+  -- the proof of `get_exif_attr` itself; here is what the answer says of the image.)
   pub gets-answer : (r : Extracted) → told r after ≡ answer img out → Says img r
   gets-answer (Done n) meets = sized (Done n) _ meets (success-writes img out (sym (ap (λ (a : Answer). a .number) meets)) .is-block)
   gets-answer (NoRoom n) meets = sized (NoRoom n) _ meets (room-only-then img out (sym (ap (λ (a : Answer). a .number) meets)) .is-block)

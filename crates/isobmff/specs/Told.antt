@@ -13,8 +13,8 @@ use Rattle.isobmff.specs.declared.top.Next.{Next}
 use Rattle.isobmff.specs.declared.top.Next.the-variants as n
 use Rattle.isobmff.specs.declared.top.Top.{Top}
 use Rattle.isobmff.specs.declared.top.Top.the-variants as t
-use Rattle.isobmff.specs.declared.meta.Last.{Last}
-use Rattle.isobmff.specs.declared.meta.Last.the-variants as l
+use Rattle.isobmff.specs.declared.meta.LastBody.{LastBody}
+use Rattle.isobmff.specs.declared.meta.LastBody.the-variants as l
 use Rattle.isobmff.specs.declared.meta.Seen.{Seen}
 use Rattle.isobmff.specs.declared.meta.Met.{Met}
 use Rattle.isobmff.specs.declared.meta.Met.the-variants as m
@@ -49,7 +49,7 @@ pub record State : Type 0 where
   pub iloc : Option Span
   pub idat : Option Span
 
-abbrev pub spanOf : Last → Option Span
+abbrev pub spanOf : LastBody → Option Span
 spanOf l.Unset = none
 spanOf (l.At from to) = some (record { from = from; to = to })
 

@@ -22,7 +22,7 @@ use Rattle.isobmff.specs.Told.{Lead, on, found}
 
 -- ---- Definitions
 
--- where a body of `size` bytes ends, if it is whole
+-- where a body of `size` bytes ends, if it is whole (where its box starts, and its type, here 0, have no say)
 unfoldable pub wholeTo : ℕ → ℕ → ℕ → Outcome ℕ
 wholeTo n from size = whole 2 n (boxOf 0 0 from (from + size)) >>= λ u. fine (from + size)
 
@@ -87,15 +87,15 @@ module _ (s : List ℕ) (at : ℕ) (q : Bool) (kind from size : ℕ) (e : fine (
 
   pub over-ftyp : kind ≡ ftyp → {o : Outcome Lead} → o ≡ ftypOver s from size → o ≡ boxOver s at q
   unfolding boxOver bodyOver
-  over-ftyp k h = rw (← e, bodyOver, eq-eqb kind ftyp k, size-is) h
+  over-ftyp k h = rw (← e, eq-eqb kind ftyp k, size-is) h
 
   pub over-meta : kind ≡ meta → {o : Outcome Lead} → o ≡ metaOver (length s) from size q → o ≡ boxOver s at q
   unfolding boxOver bodyOver
-  over-meta k h = rw (← e, bodyOver, k, size-is) h
+  over-meta k h = rw (← e, k, size-is) h
 
   pub over-other : (kind ≡ ftyp → ⊥) → (kind ≡ meta → ⊥) → fine (on q (from + size)) ≡ boxOver s at q
   unfolding boxOver bodyOver
-  over-other f m = rw (← e, bodyOver, ne-eqb kind ftyp f, ne-eqb kind meta m)
+  over-other f m = rw (← e, ne-eqb kind ftyp f, ne-eqb kind meta m)
 
 -- ---- The walk, from a position on
 

@@ -18,8 +18,8 @@ use Rattle.rules.specs.Laws.Lies.{Lies, opened-lies, iloc-lies, idat-lies}
 use Rattle.rules.specs.OverBytes.{storeOf, itemBlock, answerOf, refusal, storeIn, keptBlock, metaBlock}
 use Rattle.rules.specs.Laws.Gather.{answer-refused}
 use Rattle.rules.specs.Laws.Lent.{answer-lent}
-use Rattle.isobmff.specs.declared.meta.Last.{Last}
-use Rattle.isobmff.specs.declared.meta.Last.the-variants.{Unset, At}
+use Rattle.isobmff.specs.declared.meta.LastBody.{LastBody}
+use Rattle.isobmff.specs.declared.meta.LastBody.the-variants.{Unset, At}
 use Rattle.isobmff.specs.declared.meta.Kept.{Kept}
 use Rattle.isobmff.specs.declared.meta.Kept.the-variants.{Found}
 use Rattle.isobmff.specs.Told.{spanOf, keptOf}
@@ -32,7 +32,7 @@ unfolding metaBlock
 meta-refused img body out {n} e = answer-refused n out (ap (λ (o : Outcome doc.Kept). o >>= keptBlock img body) e)
 
 -- what `parse_meta` found
-module _ (body : List ℕ) {r : Kept} (e : keptOf r ≡ kept body) {id from to : ℕ} {idat : Last} (f : r ≡ Found id from to idat) where
+module _ (body : List ℕ) {r : Kept} (e : keptOf r ≡ kept body) {id from to : ℕ} {idat : LastBody} (f : r ≡ Found id from to idat) where
   abbrev left : doc.Kept
   left = record { wanted = id; iloc = record { from = from; to = to }; idat = spanOf idat }
 

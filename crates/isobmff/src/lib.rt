@@ -9,7 +9,7 @@ mod top;
 
 use join::Extracted;
 use meta::Kept;
-use meta::Last;
+use meta::LastBody;
 use meta::parse_meta;
 use top::Top;
 use top::parse;
@@ -28,8 +28,10 @@ fn from_meta<'a>(image: &'a [u8], body: &'a [u8], out: &mut [u8]) -> Extracted
         } => {
             let iloc = &body[from..to];
             match idat {
-                Last::Unset => { join::extract_item(image, &body[0..0], false, iloc, item_id, out) }
-                Last::At { from, to } => {
+                LastBody::Unset => {
+                    join::extract_item(image, &body[0..0], false, iloc, item_id, out)
+                }
+                LastBody::At { from, to } => {
                     join::extract_item(image, &body[from..to], true, iloc, item_id, out)
                 }
             }

@@ -21,7 +21,7 @@ const IDAT: u32 = 0x69646174;
 const CHILDREN: usize = 4;
 
 // Where the body of the last box of a type is, once one was met.
-pub(crate) enum Last {
+pub(crate) enum LastBody {
     Unset,
     At { from: usize, to: usize },
 }
@@ -29,8 +29,8 @@ pub(crate) enum Last {
 // What the children so far leave.
 struct Seen {
     item_id: ItemId,
-    iloc: Last,
-    idat: Last,
+    iloc: LastBody,
+    idat: LastBody,
 }
 
 // What they leave with one more, or why it is refused.
@@ -48,7 +48,7 @@ fn child(body: &[u8], kind: u32, from: usize, to: usize, seen: Seen) -> Met
     let item_id = seen.item_id;
     let iloc = seen.iloc;
     let idat = seen.idat;
-    let here = Last::At { from: from, to: to };
+    let here = LastBody::At { from: from, to: to };
     match kind {
         IINF => match items::parse_iinf(&body[from..to], item_id) {
             Ids::Refused(e) => Met::Refused(e),
@@ -79,8 +79,8 @@ fn children(body: &[u8]) -> Met
     let mut at = CHILDREN;
     let mut seen = Seen {
         item_id: ItemId::Unset,
-        iloc: Last::Unset,
-        idat: Last::Unset,
+        iloc: LastBody::Unset,
+        idat: LastBody::Unset,
     };
     while at < body.len() {
         match boxes::child_box(body, at) {
@@ -103,7 +103,7 @@ pub(crate) enum Kept {
         item_id: u64,
         from: usize,
         to: usize,
-        idat: Last,
+        idat: LastBody,
     },
     Refused(Refusal),
 }
@@ -118,8 +118,8 @@ fn after(seen: Seen) -> Kept
     match item_id {
         ItemId::Unset => Kept::Refused(Refusal::NotFound),
         ItemId::Is(id) => match iloc {
-            Last::Unset => Kept::Refused(Refusal::NoIloc),
-            Last::At { from, to } => Kept::Found {
+            LastBody::Unset => Kept::Refused(Refusal::NoIloc),
+            LastBody::At { from, to } => Kept::Found {
                 item_id: id,
                 from: from,
                 to: to,

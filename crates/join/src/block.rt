@@ -1,4 +1,4 @@
-// Step 10 and the room: the block, or why there is none.
+// An item's block, or why there is none: the method, step 10, the room.
 ghost use mathlib.Core.Path.{_≡_};
 ghost use lib.ListN.{length};
 ghost use Rattle.rules.specs.OverBytes.{storeOf, chosenBlock, itemBlock, answerOf};
@@ -20,7 +20,7 @@ pub enum Extracted {
     Refused(Refusal),
 }
 
-// How many bytes the method, 0 or 1, names.
+// How many bytes there are in what the method, 0 or 1, names: the image or `idat`.
 fn source_len(image: &[u8], idat: &[u8], method: u64) -> usize
     ensures { λ r. ⌜ r ≡ length (source method (now (image .entry)) (now (idat .entry))) ⌝ }
 {
@@ -63,7 +63,7 @@ fn extract_joined<'a>(
     }
 }
 
-// Steps 9 and 10 for the entry that was chosen. `stored` says whether there is an `idat`.
+// Steps 9 and 10 for the entry that was chosen.
 fn extract_chosen<'a>(
     image: &'a [u8],
     idat: &'a [u8],

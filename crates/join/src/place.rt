@@ -86,7 +86,7 @@ pub(crate) fn extent_place(method: u64, len: usize, base: u64, x: Extent) -> Pla
     }
 }
 
-// The bytes of a place in `s`; none of a refused one.
+// The bytes of a place in `s`. None of a refused one: `total_size` has refused it before, and the arm only spares a `requires`.
 fn part_at(s: &[u8], place: Place) -> &[u8]
     requires { ⌜ EndsIn (length (now s)) (placeOf place) ⌝ }
     ensures { λ r. ⌜ now r ≡ partOf (now (s .entry)) (placeOf place) ⌝ }

@@ -118,7 +118,7 @@ pub(crate) enum Past {
     Refused(Refusal),
 }
 
-// An entry's extents need only fit.
+// Past an entry's extents, sizes unjudged: they need only fit.
 fn skip_extents(body: &[u8], table: Table, entry: Entry) -> Past
     requires { ⌜ Small (tableIn table .sizes) × EntryIn (now body) (entryIn entry) ⌝ }
     ensures { λ r. ⌜ pastOf r ≡ skipped (tableIn table) (now (body .entry)) (entryIn entry) ⌝ }

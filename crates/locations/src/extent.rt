@@ -17,7 +17,7 @@ pub struct Sizes {
     pub length: usize,
 }
 
-// The index has no further use.
+// An extent. Its index is read and judged, but has no further use, so it isn't kept.
 pub struct Extent {
     pub offset: u64,
     pub length: u64,

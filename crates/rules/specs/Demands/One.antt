@@ -1,5 +1,5 @@
--- Demand 1: the room refusal is given exactly when the block is longer than the buffer; a refusal changes no byte of the output; success changes
--- the block's bytes only.
+-- Demand 1: every image gets the block's length or a number; a refusal changes no byte of the output, success changes the block's bytes only; the
+-- room refusal is given exactly when the block is longer than the buffer.
 use mathlib.Core.Path.{_≡_, refl}
 use Prim.Native.Nat.{ℕ, _≤_, _<_}
 use native.Mathlib.Omega.{arith}

@@ -52,7 +52,7 @@ byMethod image store method =
     else if eqb method 2 then refused 22
     else refused 23
 
--- Method 0 joins extents of the image, method 1 of `idat`.
+-- Method 0 joins extents of the image, of which n bytes are there, method 1 of `idat`.
 unfoldable pub sourceOf : ℕ → Option Span → ℕ → Outcome Span
 sourceOf n store method = byMethod (record { from = 0; to = n }) store method
 

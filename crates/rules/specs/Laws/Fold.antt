@@ -74,13 +74,13 @@ module _ {S R : Type 0} (f : S → Box → S) (done : S → Outcome R) (halted :
   level-done st at k = ap (closed f done halted st) (boxes-unroll l s at) ∙ rw (le-leb (length s) at k)
 
   -- The same of a count of boxes: one of them, and then the others. The bytes need not end where the count does.
-  pub counted-next : (st : S) (n at : ℕ)
+  counted-next : (st : S) (n at : ℕ)
       → closed f done halted st (countedBoxes l s (suc n) at)
       ≡ (boxAt (l .cutNumber) (l .fits (length s)) s at >>= λ b. tested l s b >>= λ u. onwards st (countedBoxes l s n) b)
   unfolding countedBoxes run boxAt announced
   counted-next st n at = step-next st at (countedBoxes l s n) (headerAt s at)
 
-  pub counted-done : (st : S) (at : ℕ) → closed f done halted st (countedBoxes l s 0 at) ≡ done st
+  counted-done : (st : S) (at : ℕ) → closed f done halted st (countedBoxes l s 0 at) ≡ done st
   unfolding countedBoxes run bare closed ending folded
   counted-done st at = refl
 
