@@ -45,11 +45,11 @@ number r.AddressSpace = 27
 number r.NoRoom = 28
 number r.ListingTooLong = 29
 
--- of a header at a position, where a cut one is `cut`
-abbrev pub header : ℕ → ℕ → Header → Outcome Box
-header cut at h.Cut = refused cut
-header cut at h.Invalid = refused 4
-header cut at (h.Read kind from size) = fine (boxOf at kind from (from + size))
+-- what a header at a position announces, where a cut one is `cut`
+abbrev pub announces : ℕ → ℕ → Header → Outcome Box
+announces cut at h.Cut = refused cut
+announces cut at h.Invalid = refused 4
+announces cut at (h.Read kind from size) = fine (boxOf at kind from (from + size))
 
 -- of a box at a position, inside another and of a file
 abbrev pub child : ℕ → Child → Outcome Box

@@ -3,12 +3,12 @@ use mathlib.Core.Path.{_≡_, refl, sym, ap, ap₂, _∙_}
 use Prim.Native.Nat.{ℕ, _+_, _-_}
 use native.Mathlib.Omega.{arith}
 use mathlib.Core.List.{List, [], _∷_}
-use lib.ListN.{getD}
+use lib.ListN.{length, getD}
 use lib.Dec.{eqb}
 use Rattle.rules.specs.Doc.Outcomes.{if_then_else_, Outcome, fine, refused}
 use Rattle.rules.specs.Doc.Bytes.{sizeOf}
-use Rattle.rules.specs.Doc.Headers.{Box, announced, childAt, fileBoxAt}
-use Rattle.boxes.specs.Told.{number, header, child, fileBox, fieldOf}
+use Rattle.rules.specs.Doc.Headers.{Box, whole, announced, standing, fileBoxAt}
+use Rattle.boxes.specs.Told.{number, announces, child, fileBox, fieldOf}
 use Rattle.boxes.specs.declared.refusal.Refusal.{Refusal}
 use Rattle.boxes.specs.declared.refusal.Refusal.the-variants as r
 use Rattle.boxes.specs.declared.header.Header.{Header}
@@ -120,14 +120,14 @@ asHeader (refused m) (refused n) = if eqb m n then h.Invalid else h.Cut
 size-back : (from size : ℕ) → from + size - from ≡ size
 size-back from size = omega arith
 
-header-back : (at : ℕ) (x : Header) → asHeader (header 0 at x) (header 1 at x) ≡ x
+header-back : (at : ℕ) (x : Header) → asHeader (announces 0 at x) (announces 1 at x) ≡ x
 unfolding asHeader
 header-back at h.Cut = refl
 header-back at h.Invalid = refl
 header-back at (h.Read kind from size) = rw (size-back from size)
 
 pub header-one : (s : List ℕ) (at : ℕ) {x y : Header}
-    → ((cut : ℕ) → header cut at x ≡ announced cut s at) → ((cut : ℕ) → header cut at y ≡ announced cut s at) → x ≡ y
+    → ((cut : ℕ) → announces cut at x ≡ announced cut s at) → ((cut : ℕ) → announces cut at y ≡ announced cut s at) → x ≡ y
 header-one s at {x} {y} e f = sym (header-back at x) ∙ (ap₂ asHeader (e 0 ∙ sym (f 0)) (e 1 ∙ sym (f 1)) ∙ header-back at y)
 
 -- ---- Boxes
@@ -141,8 +141,10 @@ unfolding asChild
 child-back at (c.Whole kind from to) = refl
 child-back at (c.Refused e) = ap c.Refused (refusal-back e)
 
-pub child-one : (s : List ℕ) (at : ℕ) {x y : Child} → child at x ≡ childAt s at → child at y ≡ childAt s at → x ≡ y
-child-one s at e f = one (child at) asChild (child-back at) e f
+pub child-one : (s : List ℕ) (h : Header) {x y : Child}
+    → ((at : ℕ) → child at x ≡ standing (whole 3 (length s)) (announces 3 at h))
+    → ((at : ℕ) → child at y ≡ standing (whole 3 (length s)) (announces 3 at h)) → x ≡ y
+child-one s h e f = one (child 0) asChild (child-back 0) (e 0) (f 0)
 
 asFileBox : Outcome Box → FileBox
 asFileBox (fine b) = f.Found (b .kind) (b .body .from) (sizeOf (b .body))

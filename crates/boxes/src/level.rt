@@ -1,7 +1,9 @@
 // A box at each of the two levels.
 ghost use mathlib.Core.Path.{_≡_};
-ghost use Rattle.rules.specs.Doc.Headers.{childAt, fileBoxAt};
-ghost use Rattle.boxes.specs.Told.{child, fileBox};
+ghost use Prim.Native.Nat.{ℕ};
+ghost use lib.ListN.{length};
+ghost use Rattle.rules.specs.Doc.Headers.{whole, standing, fileBoxAt};
+ghost use Rattle.boxes.specs.Told.{announces, child, fileBox};
 use crate::header::Header;
 use crate::refusal::Refusal;
 
@@ -14,17 +16,19 @@ pub enum Child {
     Refused(Refusal),
 }
 
-pub fn child_box(s: &[u8], at: usize) -> Child
-    ensures { λ r. ⌜ child at r ≡ childAt (now (s .entry)) at ⌝ }
+// What is said of a header inside a box, whose bytes are `s`: the rest of the Rust's `child_box`.
+// With `Header::read` inside it would be too long to be folded into every loop over boxes, so a loop calls the two.
+pub fn child_box(s: &[u8], header: Header) -> Child
+    ensures { λ r. ⌜ ((at : ℕ) → child at r ≡ standing (whole 3 (length (now (s .entry)))) (announces 3 at header)) ⌝ }
 {
-    match Header::read(s, at) {
+    match header {
         Header::Cut => Child::Refused(Refusal::BoxTooSmall),
         Header::Invalid => Child::Refused(Refusal::InvalidBoxSize),
         Header::Read { kind, from, size } => {
             if ADDRESS_MAX < size {
                 return Child::Refused(Refusal::AddressSpace);
             }
-            if size > (s.len() - from) as u64 {
+            if s.len() < from || size > (s.len() - from) as u64 {
                 return Child::Refused(Refusal::BoxTooSmall);
             }
             Child::Whole {

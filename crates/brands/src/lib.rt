@@ -5,6 +5,7 @@ ghost use Rattle.rules.specs.Doc.Heif.{isHeif};
 ghost use Rattle.brands.specs.Told.{ftypOf};
 use boxes::Child;
 use boxes::FTYP;
+use boxes::Header;
 use boxes::Refusal;
 
 const MIF1: u32 = 0x6d696631;
@@ -54,7 +55,7 @@ pub fn is_heif(buf: &[u8]) -> bool
         if buf.len() <= at {
             break 'boxes false;
         }
-        match boxes::child_box(buf, at) {
+        match boxes::child_box(buf, Header::read(buf, at)) {
             Child::Refused(_) => break 'boxes false,
             Child::Whole { kind, from, to } => {
                 if kind == FTYP {

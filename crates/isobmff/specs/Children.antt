@@ -3,14 +3,14 @@ use mathlib.Core.Path.{_≡_, refl, sym, _∙_}
 use mathlib.Core.Bool.{Bool, true, false}
 use mathlib.Core.Option.{Option, none, some, Option·map}
 use mathlib.Core.List.{List, [], _∷_}
-use Prim.Native.Nat.{ℕ, _-_, _≤_, _<_}
+use Prim.Native.Nat.{ℕ, _≤_, _<_}
 use lib.ListN.{length}
 use borrow.Author.Tests.{ne-eqb}
 use Rattle.rules.specs.Doc.Outcomes.{if_then_else_, Outcome, fine, refused, _>>=_, given}
 use Rattle.rules.specs.Doc.Lists.{only, lastOf}
-use Rattle.rules.specs.Doc.Bytes.{part, Span, bytesIn, version}
+use Rattle.rules.specs.Doc.Bytes.{part, Span, sizeOf, bytesIn, version}
 use Rattle.rules.specs.Doc.Walks.{Walk, outcome}
-use Rattle.rules.specs.Doc.Headers.{iinf, iloc, idat, Box, boxOf, isKind, is, childAt}
+use Rattle.rules.specs.Doc.Headers.{iinf, iloc, idat, Box, isKind, is, childAt}
 use Rattle.rules.specs.Doc.Levels.{tested, boxes, inside}
 use Rattle.rules.specs.Doc.Meta.{metaTest}
 use Rattle.rules.specs.Doc.Children.{metaLevel, children, bodyIn, lastBody, allItems, wantedItem, Kept, keptIn, kept}
@@ -43,12 +43,6 @@ childrenFrom body at st = leaves (sees body) st (boxes metaLevel body at)
 
 unfoldable pub childrenOver : List ℕ → Outcome State
 childrenOver body = leaves (sees body) nothing (children body)
-
--- one child, read as it is met (where it starts, here 0, has no say)
-unfoldable pub childOver : List ℕ → ℕ → ℕ → ℕ → State → Outcome State
-childOver body kind from to st = do
-  w ← if isKind iinf kind then iinfOver (part body from (to - from)) (st .wanted) else fine (st .wanted)
-  fine (leftBy st (boxOf 0 kind from to) w)
 
 -- after the children: no wanted id is 1; no `iloc` is 16
 unfoldable pub afterwards : State → Outcome Kept
@@ -94,10 +88,26 @@ module _ (body : List ℕ) (at : ℕ) (st : State) {r : Outcome State} (inv : ch
     pub child-cut : {n : ℕ} → refused n ≡ childAt body at → refused n ≡ r
     child-cut e = rw (← e) at next
 
-    pub child-read : {b : Box} {o : Outcome State} → fine b ≡ childAt body at → o ≡ childOver body (b .kind) (b .body .from) (b .body .to) st
-        → (o >>= λ st. childrenFrom body (b .body .to) st) ≡ r
-    unfolding childOver keep
-    child-read {b} e f = rw (← e, bytes-in body (b .body) (child-inside body at e .inner), ← f) at next
+    -- by the type
+    module _ {b : Box} (e : fine b ≡ childAt body at) where
+      pub child-iinf : {o : Outcome (Option ℕ)} → b .kind ≡ iinf → o ≡ iinfOver (part body (b .body .from) (sizeOf (b .body))) (st .wanted)
+          → (o >>= λ w. childrenFrom body (b .body .to) (record { wanted = w; iloc = st .iloc; idat = st .idat })) ≡ r
+      unfolding keep
+      child-iinf {o} k f =
+          sym (bind-assoc o (λ w. fine (record { wanted = w; iloc = st .iloc; idat = st .idat })) (childrenFrom body (b .body .to)))
+          ∙ rw (← e, k, bytes-in body (b .body) (child-inside body at e .inner), ← f) at next
+
+      pub child-iloc : b .kind ≡ iloc → childrenFrom body (b .body .to) (record { wanted = st .wanted; iloc = some (b .body); idat = st .idat }) ≡ r
+      unfolding keep
+      child-iloc k = rw (← e, k) at next
+
+      pub child-idat : b .kind ≡ idat → childrenFrom body (b .body .to) (record { wanted = st .wanted; iloc = st .iloc; idat = some (b .body) }) ≡ r
+      unfolding keep
+      child-idat k = rw (← e, k) at next
+
+      pub child-other : (b .kind ≡ iinf → ⊥) → (b .kind ≡ iloc → ⊥) → (b .kind ≡ idat → ⊥) → childrenFrom body (b .body .to) st ≡ r
+      unfolding keep
+      child-other p q o = rw (← e, ne-eqb (b .kind) iinf p, ne-eqb (b .kind) iloc q, ne-eqb (b .kind) idat o) at next
 
 pub children-start : (body : List ℕ) → childrenFrom body 4 nothing ≡ childrenOver body
 unfolding childrenFrom childrenOver children

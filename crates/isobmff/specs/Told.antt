@@ -7,6 +7,7 @@ use Rattle.rules.specs.Doc.Bytes.{Span}
 use Rattle.rules.specs.Doc.Children as doc
 use Rattle.boxes.specs.Told.{number}
 use Rattle.items.specs.Told.{idOf}
+use Rattle.items.specs.declared.ItemId.{ItemId}
 use Rattle.isobmff.specs.declared.top.Body.{Body}
 use Rattle.isobmff.specs.declared.top.Body.the-variants as b
 use Rattle.isobmff.specs.declared.top.Next.{Next}
@@ -15,7 +16,6 @@ use Rattle.isobmff.specs.declared.top.Top.{Top}
 use Rattle.isobmff.specs.declared.top.Top.the-variants as t
 use Rattle.isobmff.specs.declared.meta.LastBody.{LastBody}
 use Rattle.isobmff.specs.declared.meta.LastBody.the-variants as l
-use Rattle.isobmff.specs.declared.meta.Seen.{Seen}
 use Rattle.isobmff.specs.declared.meta.Met.{Met}
 use Rattle.isobmff.specs.declared.meta.Met.the-variants as m
 use Rattle.isobmff.specs.declared.meta.Kept.{Kept}
@@ -53,11 +53,11 @@ abbrev pub spanOf : LastBody → Option Span
 spanOf l.Unset = none
 spanOf (l.At from to) = some (record { from = from; to = to })
 
-abbrev pub seenOf : Seen → State
-seenOf s = record { wanted = idOf (s .«item_id»); iloc = spanOf (s .iloc); idat = spanOf (s .idat) }
+abbrev pub stateOf : ItemId → LastBody → LastBody → State
+stateOf wanted iloc idat = record { wanted = idOf wanted; iloc = spanOf iloc; idat = spanOf idat }
 
 abbrev pub metOf : Met → Outcome State
-metOf (m.Read s) = fine (seenOf s)
+metOf (m.Read wanted iloc idat) = fine (stateOf wanted iloc idat)
 metOf (m.Refused e) = refused (number e)
 
 abbrev pub keptOf : Kept → Outcome doc.Kept

@@ -1,11 +1,10 @@
 // The `meta` box: its children in order, and what they leave.
 ghost use mathlib.Core.Path.{_≡_};
-ghost use Prim.Native.Nat.{_≤_};
-ghost use lib.ListN.{length};
 ghost use Rattle.rules.specs.Doc.Children.{kept};
-ghost use Rattle.isobmff.specs.Told.{seenOf, metOf, keptOf};
-ghost use Rattle.isobmff.specs.Children.{childOver, childrenOver, afterwards};
+ghost use Rattle.isobmff.specs.Told.{stateOf, metOf, keptOf};
+ghost use Rattle.isobmff.specs.Children.{childrenOver, afterwards};
 use boxes::Child;
+use boxes::Header;
 use boxes::Number;
 use boxes::Refusal;
 use items::Ids;
@@ -26,75 +25,52 @@ pub(crate) enum LastBody {
     At { from: usize, to: usize },
 }
 
-// What the children so far leave.
-struct Seen {
-    item_id: ItemId,
-    iloc: LastBody,
-    idat: LastBody,
-}
-
-// What they leave with one more, or why it is refused.
+// What all children leave, or why one is refused.
 enum Met {
-    Read(Seen),
+    Read {
+        item_id: ItemId,
+        iloc: LastBody,
+        idat: LastBody,
+    },
     Refused(Refusal),
 }
 
-// One child, after those that left `seen`: an `iinf` is read as it is met.
-fn child(body: &[u8], kind: u32, from: usize, to: usize, seen: Seen) -> Met
-    requires { ⌜ from ≤ to ⌝ }
-    requires { ⌜ to ≤ length (now body) ⌝ }
-    ensures { λ r. ⌜ metOf r ≡ childOver (now (body .entry)) kind from to (seenOf seen) ⌝ }
-{
-    let item_id = seen.item_id;
-    let iloc = seen.iloc;
-    let idat = seen.idat;
-    let here = LastBody::At { from: from, to: to };
-    match kind {
-        IINF => match items::parse_iinf(&body[from..to], item_id) {
-            Ids::Refused(e) => Met::Refused(e),
-            Ids::Read(id) => Met::Read(Seen {
-                item_id: id,
-                iloc: iloc,
-                idat: idat,
-            }),
-        },
-        ILOC => Met::Read(Seen {
-            item_id: item_id,
-            iloc: here,
-            idat: idat,
-        }),
-        IDAT => Met::Read(Seen {
-            item_id: item_id,
-            iloc: iloc,
-            idat: here,
-        }),
-        _ => Met::Read(seen),
-    }
-}
-
-// All children, in order. `iloc` may stand before `iinf`, so it is only kept here, and read when the wanted id is known.
+// All children, in order. An `iinf` is read as it is met. `iloc` may stand before it: it is only kept here, and read when the wanted id is known.
 fn children(body: &[u8]) -> Met
     ensures { λ r. ⌜ metOf r ≡ childrenOver (now (body .entry)) ⌝ }
 {
     let mut at = CHILDREN;
-    let mut seen = Seen {
-        item_id: ItemId::Unset,
-        iloc: LastBody::Unset,
-        idat: LastBody::Unset,
-    };
+    let mut item_id = ItemId::Unset;
+    let mut iloc = LastBody::Unset;
+    let mut idat = LastBody::Unset;
     while at < body.len() {
-        match boxes::child_box(body, at) {
+        match boxes::child_box(body, Header::read(body, at)) {
             Child::Refused(e) => return Met::Refused(e),
-            Child::Whole { kind, from, to } => match child(body, kind, from, to, seen) {
-                Met::Refused(e) => return Met::Refused(e),
-                Met::Read(next) => {
-                    seen = next;
-                    at = to;
+            Child::Whole { kind, from, to } => {
+                match kind {
+                    IINF => match items::parse_iinf(&body[from..to], item_id) {
+                        Ids::Refused(e) => return Met::Refused(e),
+                        Ids::Read(id) => {
+                            item_id = id;
+                        }
+                    },
+                    ILOC => {
+                        iloc = LastBody::At { from: from, to: to };
+                    }
+                    IDAT => {
+                        idat = LastBody::At { from: from, to: to };
+                    }
+                    _ => {}
                 }
-            },
+                at = to;
+            }
         }
     }
-    Met::Read(seen)
+    Met::Read {
+        item_id: item_id,
+        iloc: iloc,
+        idat: idat,
+    }
 }
 
 // What the children leave: the wanted id, where the last `iloc` is, and where the last `idat` is if there is one.
@@ -109,12 +85,9 @@ pub(crate) enum Kept {
 }
 
 // After the children: no wanted id is asked first, then no `iloc`.
-fn after(seen: Seen) -> Kept
-    ensures { λ r. ⌜ keptOf r ≡ afterwards (seenOf seen) ⌝ }
+fn after(item_id: ItemId, iloc: LastBody, idat: LastBody) -> Kept
+    ensures { λ r. ⌜ keptOf r ≡ afterwards (stateOf «item_id» iloc idat) ⌝ }
 {
-    let item_id = seen.item_id;
-    let iloc = seen.iloc;
-    let idat = seen.idat;
     match item_id {
         ItemId::Unset => Kept::Refused(Refusal::NotFound),
         ItemId::Is(id) => match iloc {
@@ -138,7 +111,11 @@ pub(crate) fn parse_meta(body: &[u8]) -> Kept
         Number::Got(version) => match version {
             0 => match children(body) {
                 Met::Refused(e) => Kept::Refused(e),
-                Met::Read(seen) => after(seen),
+                Met::Read {
+                    item_id,
+                    iloc,
+                    idat,
+                } => after(item_id, iloc, idat),
             },
             _ => Kept::Refused(Refusal::MetaVersion),
         },

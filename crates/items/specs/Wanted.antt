@@ -1,11 +1,11 @@
 -- The wanted id: what an `infe`, a box of an `iinf` and a whole `iinf` leave of it.
 use mathlib.Core.Path.{_≡_, refl, sym, ap, _∙_}
 use mathlib.Core.Bool.{Bool, true, false}
-use mathlib.Core.Option.{Option, some, Option·map}
+use mathlib.Core.Option.{Option, none, some, Option·map}
 use mathlib.Core.List.{List, [], _∷_}
 use Prim.Native.Nat.{ℕ, suc, _+_, _-_, _≤_, _<_}
 use native.Mathlib.Omega.{arith}
-use borrow.Author.Tests.{ne-eqb}
+use borrow.Author.Tests.{eq-eqb, ne-eqb}
 use Rattle.rules.specs.Doc.Outcomes.{if_then_else_, Outcome, fine, refused, _>>=_, once}
 use Rattle.rules.specs.Doc.Lists.{only, lastOf, each}
 use Rattle.rules.specs.Doc.Bytes.{part, sizeOf, bytesIn, field, version}
@@ -14,6 +14,7 @@ use Rattle.rules.specs.Doc.Headers.{infe, Exif, Box, isKind, is, childAt}
 use Rattle.rules.specs.Doc.Levels.{tested, countedBoxes, inside}
 use Rattle.rules.specs.Doc.Iinf.{Item, itemIdSize, item, itemTest, isExif, itemIn, items}
 use Rattle.rules.specs.Doc.Iinf.{Count, countSize, infoCount, infoLevel, infos, infoTest, infoBoxes}
+use Rattle.rules.specs.Laws.Rows.{bind-assoc}
 use Rattle.rules.specs.Laws.Numbers.{bytes-in}
 use Rattle.rules.specs.Laws.Headers.{child-inside}
 use Rattle.rules.specs.Laws.Fold.{folded, leaves, readNext, counted-children-next, counted-children-done}
@@ -107,10 +108,6 @@ module _ (body : List ℕ) (w : Option ℕ) where
 
 -- ---- An `iinf`, box by box
 
--- one box: the `infe` among them are read
-unfoldable pub entryOver : ℕ → List ℕ → Option ℕ → Outcome (Option ℕ)
-entryOver kind body w = if isKind infe kind then infeOver body w else fine w
-
 -- what a box makes of the wanted id
 sees : List ℕ → Option ℕ → Box → Option ℕ
 sees body = feed wants (is infe) (itemIn body)
@@ -164,14 +161,29 @@ module _ (body : List ℕ) (w : Option ℕ) where
     unfolding countSize
     iinf-other k f g = rw f at g ∙ iinf-count 4 e (rw (ne-eqb v 0 k))
 
--- a box read as it is met
+-- asked with nothing wanted before it, an `infe` says what it changes
+infe-alone : (body : List ℕ) (w : Option ℕ) → infeOver body w ≡ (infeOver body none >>= λ x. fine (orElse x w))
+unfolding infeOver
+infe-alone body w = go (item body)
+  where
+    chosen : (i : Item) (t : Bool) → fine (if t then some (i .id) else w) ≡ fine (orElse (if t then some (i .id) else none) w)
+    chosen i true = refl
+    chosen i false = refl
+
+    go : (o : Outcome Item)
+        → (o >>= λ i. fine (if isExif i then some (i .id) else w))
+        ≡ ((o >>= λ i. fine (if isExif i then some (i .id) else none)) >>= λ x. fine (orElse x w))
+    go (refused n) = refl
+    go (fine i) = chosen i (isExif i)
+
+-- a box read as it is met: the `infe` among them are read
 abbrev reads : List ℕ → Option ℕ → Box → Outcome (Option ℕ)
-reads body w b = entryOver (b .kind) (bytesIn body (b .body)) w
+reads body w b = if is infe b then infeOver (bytesIn body (b .body)) w else fine w
 
 -- that refuses what the level's test refuses, and else does what the fold does
 reads-agree : (body : List ℕ) (w : Option ℕ) (b : Box)
     → reads body w b ≡ (tested (inside (isKind infe) itemTest) body b >>= λ u. fine (sees body w b))
-unfolding entryOver infeOver tested inside itemTest sees wants feed keep itemIn folded once
+unfolding infeOver tested inside itemTest sees wants feed keep itemIn folded once
 reads-agree body w b = go (is infe b) (item (bytesIn body (b .body)))
   where
     go : (t : Bool) (o : Outcome Item)
@@ -201,7 +213,12 @@ module _ (body : List ℕ) (n i at : ℕ) (w : Option ℕ) {r : Outcome (Option 
     pub entries-cut : {m : ℕ} → refused m ≡ childAt body at → refused m ≡ r
     entries-cut e = rw (← e) at entries-next
 
-    pub entries-read : {b : Box} {o : Outcome (Option ℕ)} → fine b ≡ childAt body at
-        → o ≡ entryOver (b .kind) (part body (b .body .from) (sizeOf (b .body))) w
-        → (o >>= λ w. entriesOver body (n - (i + 1)) (b .body .to) w) ≡ r
-    entries-read {b} e f = rw (← e, bytes-in body (b .body) (child-inside body at e .inner), ← f) at entries-next
+    module _ {b : Box} (e : fine b ≡ childAt body at) where
+      pub entries-read : {o : Outcome (Option ℕ)} → b .kind ≡ infe → o ≡ infeOver (part body (b .body .from) (sizeOf (b .body))) none
+          → (o >>= λ x. entriesOver body (n - (i + 1)) (b .body .to) (orElse x w)) ≡ r
+      entries-read {o} k f =
+          sym (bind-assoc o (λ x. fine (orElse x w)) (entriesOver body (n - (i + 1)) (b .body .to)))
+          ∙ rw (← e, eq-eqb (b .kind) infe k, bytes-in body (b .body) (child-inside body at e .inner), infe-alone _ w, ← f) at entries-next
+
+      pub entries-other : (b .kind ≡ infe → ⊥) → entriesOver body (n - (i + 1)) (b .body .to) w ≡ r
+      entries-other k = rw (← e, ne-eqb (b .kind) infe k) at entries-next

@@ -3,8 +3,9 @@ ghost use mathlib.Core.Path.{_≡_};
 ghost use Prim.Native.Nat.{_+_, _^_, _<_};
 ghost use Rattle.boxes.specs.Told.{fieldOf};
 ghost use Rattle.items.specs.Told.{idOf, idsOf};
-ghost use Rattle.items.specs.Wanted.{infeOver, behindId, entryOver, countOver, iinfOver};
+ghost use Rattle.items.specs.Wanted.{infeOver, behindId, countOver, iinfOver};
 use boxes::Child;
+use boxes::Header;
 use boxes::Number;
 use boxes::Refusal;
 
@@ -37,7 +38,8 @@ pub fn parse_iinf(body: &[u8], wanted: ItemId) -> Ids
     }
 }
 
-// That many boxes. The count is a promise only: the loop ends at the first box that doesn't fit, with its refusal.
+// That many boxes. The count is a promise only: the loop ends at the first box that doesn't fit, with its refusal. An `infe` is asked with
+// nothing wanted before it, so that only an Exif one writes `item`: handing that through at every turn would cost a copy.
 fn entries(body: &[u8], count: Number, first: usize, wanted: ItemId) -> Ids
     ensures { λ r. ⌜ idsOf r ≡ countOver (now (body .entry)) (fieldOf count) first (idOf wanted) ⌝ }
 {
@@ -47,29 +49,26 @@ fn entries(body: &[u8], count: Number, first: usize, wanted: ItemId) -> Ids
             let mut at = first;
             let mut item = wanted;
             for _ in 0..entry_count {
-                match boxes::child_box(body, at) {
+                match boxes::child_box(body, Header::read(body, at)) {
                     Child::Refused(e) => return Ids::Refused(e),
-                    Child::Whole { kind, from, to } => match entry(kind, &body[from..to], item) {
-                        Ids::Refused(e) => return Ids::Refused(e),
-                        Ids::Read(id) => {
-                            item = id;
-                            at = to;
+                    Child::Whole { kind, from, to } => {
+                        if kind == INFE {
+                            match parse_infe(&body[from..to], ItemId::Unset) {
+                                Ids::Refused(e) => return Ids::Refused(e),
+                                Ids::Read(id) => match id {
+                                    ItemId::Unset => {}
+                                    ItemId::Is(exif) => {
+                                        item = ItemId::Is(exif);
+                                    }
+                                },
+                            }
                         }
-                    },
+                        at = to;
+                    }
                 }
             }
             Ids::Read(item)
         }
-    }
-}
-
-// The `infe` among them are read.
-fn entry(kind: u32, body: &[u8], wanted: ItemId) -> Ids
-    ensures { λ r. ⌜ idsOf r ≡ entryOver kind (now (body .entry)) (idOf wanted) ⌝ }
-{
-    match kind {
-        INFE => parse_infe(body, wanted),
-        _ => Ids::Read(wanted),
     }
 }
 

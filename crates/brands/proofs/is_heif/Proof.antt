@@ -4,7 +4,7 @@ use Prim.Native.Nat.{_≤_, _-_}
 use native.Mathlib.Omega.{arith}
 use lib.ListN.{length}
 use Rattle.rules.specs.Doc.Heif.{isHeif}
-use Rattle.rules.specs.Laws.Headers.{child-inside}
+use Rattle.rules.specs.Laws.Headers.{child-at, child-inside}
 use Rattle.brands.specs.Brands.{knownFrom, brand-none, brand-known, brand-other, heifFrom, heif-start, heif-done, heif-refused, heif-other, heif-small, heif-brands}
 use borrow.Author.Needs.{needs}
 use Rattle.brands.proofs.is_heif.Statement.{statement}
@@ -25,6 +25,9 @@ abbrev μ-boxes : tie.MeasureT-boxes
 boxes-holds : tie.Need-boxes-holds Inv-loop μ-loop Inv-boxes μ-boxes
 boxes-holds c = heif-start _
 
+read-requires : tie.Need-read-requires Inv-loop μ-loop Inv-boxes μ-boxes
+read-requires c κs = search needs
+
 child-box-requires : tie.Need-child-box-requires Inv-loop μ-loop Inv-boxes μ-boxes
 child-box-requires c κs = search needs
 
@@ -35,22 +38,27 @@ enum-known-kind : tie.Need-enum-known-kind Inv-loop μ-loop Inv-boxes μ-boxes
 enum-known-kind c = search needs
 
 sub-body : tie.Need-sub-body Inv-loop μ-loop Inv-boxes μ-boxes
-sub-body c = child-inside _ _ (rw (c .before .before .kind .given .1) at (c .before .before .before .before .child-box .ensures)) .order
+sub-body c =
+    let box = c .before .before .before .before in
+    child-inside _ _ (rw (c .before .before .kind .given .1) at (child-at _ _ (box .before .read .ensures 3) (box .child-box .ensures _))) .order
 
 part-body-start : tie.Need-part-body-start Inv-loop μ-loop Inv-boxes μ-boxes
 part-body-start c =
-    let i = child-inside _ _ (rw (c .before .before .kind .given .1) at (c .before .before .before .before .child-box .ensures)) in
+    let box = c .before .before .before .before in
+    let i = child-inside _ _ (rw (c .before .before .kind .given .1) at (child-at _ _ (box .before .read .ensures 3) (box .child-box .ensures _))) in
     omega arith
 
 part-body-end : tie.Need-part-body-end Inv-loop μ-loop Inv-boxes μ-boxes
-part-body-end c = child-inside _ _ (rw (c .before .before .kind .given .1) at (c .before .before .before .before .child-box .ensures)) .inner
+part-body-end c =
+    let box = c .before .before .before .before in
+    child-inside _ _ (rw (c .before .before .kind .given .1) at (child-at _ _ (box .before .read .ensures 3) (box .child-box .ensures _))) .inner
 
 loop-holds : tie.Need-loop-holds Inv-loop μ-loop Inv-boxes μ-boxes
 loop-holds c =
-    let b = rw (c .before .before .before .before .kind .given .1) at (c .before .before .before .before .before .before .child-box .ensures) in
-    let boxes = c .before .before .before .before .before .before .before .before .boxes in
-    let more = c .before .before .before .before .before .before .before .if1 .left in
-    (omega arith, heif-brands _ _ (boxes .inv) more b (c .before .before .if2 .taken) (c .if3 .left))
+    let box = c .before .before .before .before .before .before in
+    let b = rw (c .before .before .before .before .kind .given .1) at (child-at _ _ (box .before .read .ensures 3) (box .child-box .ensures _)) in
+    let more = box .before .before in
+    (omega arith, heif-brands _ _ (more .before .boxes .inv) (more .if1 .left) b (c .before .before .if2 .taken) (c .if3 .left))
 
 sub-loop : tie.Need-sub-loop Inv-loop μ-loop Inv-boxes μ-boxes
 sub-loop c = search needs
@@ -72,27 +80,30 @@ loop-again c = (omega arith, search brand-other)
 
 boxes-less : tie.Need-boxes-less Inv-loop μ-loop Inv-boxes μ-boxes
 boxes-less c =
-    let i = child-inside _ _ (rw (c .before .before .kind .given .1) at (c .before .before .before .before .child-box .ensures)) in
+    let box = c .before .before .before .before in
+    let i = child-inside _ _ (rw (c .before .before .kind .given .1) at (child-at _ _ (box .before .read .ensures 3) (box .child-box .ensures _))) in
     omega arith
 
 boxes-again : tie.Need-boxes-again Inv-loop μ-loop Inv-boxes μ-boxes
 boxes-again c =
-    let b = rw (c .before .before .kind .given .1) at (c .before .before .before .before .child-box .ensures) in
-    let boxes = c .before .before .before .before .before .before .boxes in
-    let more = c .before .before .before .before .before .if1 .left in
-    heif-other _ _ (boxes .inv) more b (c .if2 .left)
+    let box = c .before .before .before .before in
+    let b = rw (c .before .before .kind .given .1) at (child-at _ _ (box .before .read .ensures 3) (box .child-box .ensures _)) in
+    let more = box .before .before in
+    heif-other _ _ (more .before .boxes .inv) (more .if1 .left) b (c .if2 .left)
 
 returns : tie.Need-returns Inv-loop μ-loop Inv-boxes μ-boxes
 returns c = search heif-done
 
 returns-2 : tie.Need-returns-2 Inv-loop μ-loop Inv-boxes μ-boxes
 returns-2 c =
-    let b = rw (c .enum-told .given .1) at (c .before .before .child-box .ensures) in
+    let box = c .before .before in
+    let b = rw (c .enum-told .given .1) at (child-at _ _ (box .before .read .ensures 3) (box .child-box .ensures _)) in
     search heif-refused
 
 returns-3 : tie.Need-returns-3 Inv-loop μ-loop Inv-boxes μ-boxes
 returns-3 c =
-    let b = rw (c .before .before .before .before .kind .given .1) at (c .before .before .before .before .before .before .child-box .ensures) in
+    let box = c .before .before .before .before .before .before in
+    let b = rw (c .before .before .before .before .kind .given .1) at (child-at _ _ (box .before .read .ensures 3) (box .child-box .ensures _)) in
     search heif-small
 
 returns-4 : tie.Need-returns-4 Inv-loop μ-loop Inv-boxes μ-boxes
@@ -110,6 +121,7 @@ is-heif-spec =
     Inv-boxes
     μ-boxes
     boxes-holds
+    read-requires
     child-box-requires
     enum-told
     enum-known-kind

@@ -1,10 +1,11 @@
 -- The loop: the boxes still to come, after what those before them left, leave what all of them leave.
 use mathlib.Core.Path.{_≡_}
+use mathlib.Core.Logic.{⊎-elim}
 use Prim.Native.Nat.{_-_, _≤_}
 use native.Mathlib.Omega.{arith}
-use Rattle.rules.specs.Laws.Headers.{child-inside}
+use Rattle.rules.specs.Laws.Headers.{child-at, child-inside}
 use Rattle.items.specs.Told.{idOf}
-use Rattle.items.specs.Wanted.{entriesOver, countOver, entries-none, entries-cut, entries-read}
+use Rattle.items.specs.Wanted.{entriesOver, countOver, entries-none, entries-cut, entries-read, entries-other}
 use borrow.Author.Needs.{needs}
 use Rattle.items.proofs.entries.Statement.{statement}
 use Rattle.items.proofs.entries.Tie as tie
@@ -28,6 +29,9 @@ loop-holds c =
     let z : n - 0 ≡ n = omega arith in
     (omega arith, rw z)
 
+read-requires : tie.Need-read-requires Inv-loop μ-loop
+read-requires c κs = search needs
+
 child-box-requires : tie.Need-child-box-requires Inv-loop μ-loop
 child-box-requires c κs = search needs
 
@@ -37,25 +41,31 @@ enum-known-e c = search needs
 returns : tie.Need-returns Inv-loop μ-loop
 unfolding countOver
 returns c =
-    let b = rw (c .before .e .given .1) at (c .before .before .before .child-box .ensures) in
-    rw (c .before .before .before .before .before .before .before .count2 .given .1) (search entries-cut)
+    let box = c .before .before .before in
+    let b = rw (c .before .e .given .1) at (child-at _ _ (box .before .read .ensures 3) (box .child-box .ensures _)) in
+    rw (box .before .before .before .before .before .count2 .given .1) (search entries-cut)
 
 enum-known-kind : tie.Need-enum-known-kind Inv-loop μ-loop
 enum-known-kind c = search needs
 
-sub-entry : tie.Need-sub-entry Inv-loop μ-loop
-sub-entry c = child-inside _ _ (rw (c .before .kind .given .1) at (c .before .before .before .child-box .ensures)) .order
+sub-parse-infe : tie.Need-sub-parse-infe Inv-loop μ-loop
+sub-parse-infe c =
+    let box = c .before .before .before .before in
+    child-inside _ _ (rw (c .before .before .kind .given .1) at (child-at _ _ (box .before .read .ensures 3) (box .child-box .ensures _))) .order
 
-part-entry-start : tie.Need-part-entry-start Inv-loop μ-loop
-part-entry-start c =
-    let i = child-inside _ _ (rw (c .before .kind .given .1) at (c .before .before .before .child-box .ensures)) in
+part-parse-infe-start : tie.Need-part-parse-infe-start Inv-loop μ-loop
+part-parse-infe-start c =
+    let box = c .before .before .before .before in
+    let i = child-inside _ _ (rw (c .before .before .kind .given .1) at (child-at _ _ (box .before .read .ensures 3) (box .child-box .ensures _))) in
     omega arith
 
-part-entry-end : tie.Need-part-entry-end Inv-loop μ-loop
-part-entry-end c = child-inside _ _ (rw (c .before .kind .given .1) at (c .before .before .before .child-box .ensures)) .inner
+part-parse-infe-end : tie.Need-part-parse-infe-end Inv-loop μ-loop
+part-parse-infe-end c =
+    let box = c .before .before .before .before in
+    child-inside _ _ (rw (c .before .before .kind .given .1) at (child-at _ _ (box .before .read .ensures 3) (box .child-box .ensures _))) .inner
 
-entry-requires : tie.Need-entry-requires Inv-loop μ-loop
-entry-requires c κs = search needs
+parse-infe-requires : tie.Need-parse-infe-requires Inv-loop μ-loop
+parse-infe-requires c κs = search needs
 
 enum-known-e-2 : tie.Need-enum-known-e-2 Inv-loop μ-loop
 enum-known-e-2 c = search needs
@@ -63,15 +73,24 @@ enum-known-e-2 c = search needs
 returns-2 : tie.Need-returns-2 Inv-loop μ-loop
 unfolding countOver
 returns-2 c =
-    let k = c .before .before .before .before .before .before in
-    let b = rw (k .kind .given .1) at (k .before .before .child-box .ensures) in
-    let o = rw (c .before .e2 .given .1) at (c .before .before .before .entry .ensures) in
-    let l = k .before .before .before in
-    let all = l .before .before .before .count2 .given .1 in
-    rw all (entries-read _ _ _ _ _ (l .before .loop .inv .1) (l .loop-test .taken) b o)
+    let read = c .before .before .before in
+    let if1 = read .before .before in
+    let kind = if1 .before .before in
+    let box = kind .before .before in
+    let b = rw (kind .kind .given .1) at (child-at _ _ (box .before .read .ensures 3) (box .child-box .ensures _)) in
+    let o = rw (c .before .e2 .given .1) at (read .parse-infe .ensures) in
+    let turn = box .before .before in
+    let all = turn .before .before .before .count2 .given .1 in
+    rw all (entries-read _ _ _ _ _ (turn .before .loop .inv .1) (turn .loop-test .taken) b (if1 .if1 .taken) o)
 
 enum-known-id : tie.Need-enum-known-id Inv-loop μ-loop
 enum-known-id c = search needs
+
+enum-told : tie.Need-enum-told Inv-loop μ-loop
+enum-told c = search needs
+
+enum-known-id-2 : tie.Need-enum-known-id-2 Inv-loop μ-loop
+enum-known-id-2 c = search needs
 
 add-counter : tie.Need-add-counter Inv-loop μ-loop
 add-counter c = search needs
@@ -81,11 +100,20 @@ loop-less c = search needs
 
 loop-again : tie.Need-loop-again Inv-loop μ-loop
 loop-again c =
-    let k = c .before .before .before .before .before .before in
-    let b = rw (k .kind .given .1) at (k .before .before .child-box .ensures) in
-    let o = rw (c .before .id .given .1) at (c .before .before .before .entry .ensures) in
-    let l = k .before .before .before in
-    (omega arith, entries-read _ _ _ _ _ (l .before .loop .inv .1) (l .loop-test .taken) b o)
+    let kind = c .before .before in
+    let box = kind .before .before in
+    let b = rw (kind .kind .given .1) at (child-at _ _ (box .before .read .ensures 3) (box .child-box .ensures _)) in
+    let turn = box .before .before in
+    let inv = turn .before .loop .inv .1 in
+    let more = turn .loop-test .taken in (
+      omega arith,
+      ⊎-elim
+          (λ w. rw (w .8, w .9) (entries-read _ _ _ _ _ inv more b (w .0 .taken) (rw (w .4 .given .1, w .7 .given .1) at (w .2 .ensures))))
+          (⊎-elim
+          (λ w. rw (w .9, w .10) (entries-read _ _ _ _ _ inv more b (w .0 .taken) (rw (w .4 .given .1, w .7 .given .1) at (w .2 .ensures))))
+          (λ w. rw (w .1, w .2) (entries-other _ _ _ _ _ inv more b (w .0 .left))))
+          (c .if1 .came),
+    )
 
 returns-3 : tie.Need-returns-3 Inv-loop μ-loop
 unfolding countOver
@@ -104,17 +132,20 @@ entries-spec =
     enum-known-count
     enum-known-count-2
     loop-holds
+    read-requires
     child-box-requires
     enum-known-e
     returns
     enum-known-kind
-    sub-entry
-    part-entry-start
-    part-entry-end
-    entry-requires
+    sub-parse-infe
+    part-parse-infe-start
+    part-parse-infe-end
+    parse-infe-requires
     enum-known-e-2
     returns-2
     enum-known-id
+    enum-told
+    enum-known-id-2
     add-counter
     loop-less
     loop-again

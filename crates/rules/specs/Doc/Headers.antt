@@ -111,12 +111,16 @@ announced cut s at = do
   size ← bodySize (length s) h
   fine (boxWith h size)
 
--- the same, if it stands the test of its level
-unfoldable pub boxAt : ℕ → (Box → Outcome (Unit {0})) → List ℕ → ℕ → Outcome Box
-boxAt cut test s at = do
-  b ← announced cut s at
+-- a box that was announced, if it stands the test of its level
+abbrev pub standing : (Box → Outcome (Unit {0})) → Outcome Box → Outcome Box
+standing test o = do
+  b ← o
   _ ← test b
   fine b
+
+-- the same of the box that is announced at a position
+unfoldable pub boxAt : ℕ → (Box → Outcome (Unit {0})) → List ℕ → ℕ → Outcome Box
+boxAt cut test s at = standing test (announced cut s at)
 
 -- Inside a box: a header or body that doesn't fit is 3.
 unfoldable pub childAt : List ℕ → ℕ → Outcome Box

@@ -10,8 +10,8 @@ use lib.Dec.{ltb}
 use borrow.Author.Tests.{lt-ltb, le-ltb, le-leb, lt-leb, ne-eqb}
 use Rattle.rules.specs.Doc.Outcomes.{fine, refused, require}
 use Rattle.rules.specs.Doc.Bytes.{numberAt, sizeOf}
-use Rattle.rules.specs.Doc.Headers.{ftyp, meta, headerOf, headerAt, bodySize, Box, boxOf, boxWith, whole, skips, announced, boxAt, childAt, fileBoxAt}
-use Rattle.rules.specs.Laws.Headers.{begins}
+use Rattle.rules.specs.Doc.Headers.{ftyp, meta, headerOf, headerAt, bodySize, Box, boxOf, boxWith}
+use Rattle.rules.specs.Doc.Headers.{whole, skips, announced, standing, boxAt, fileBoxAt}
 
 -- ---- The decision over the size, case by case. `left` bytes are left at the position.
 
@@ -58,21 +58,24 @@ module _ (s : List ℕ) (at : ℕ) {left : ℕ} (l : left ≡ length s - at) whe
 
 -- ---- The test of each level, of a box that was announced
 
-module _ (s : List ℕ) (at : ℕ) {kind from size : ℕ} (e : fine (boxOf at kind from (from + size)) ≡ announced 3 s at) where
-  pub child-beyond : 2 ^ 64 ≤ size → refused 27 ≡ childAt s at
-  unfolding childAt boxAt whole
-  child-beyond h = rw (← e, whole, le-ltb (from + size - from) (2 ^ 64) (omega arith))
+-- inside a box of n bytes
+module _ (n at kind from size : ℕ) where
+  abbrev box : Box
+  box = boxOf at kind from (from + size)
 
-  pub child-cut : size < 2 ^ 64 → length s - from < size → refused 3 ≡ childAt s at
-  unfolding childAt boxAt whole
-  child-cut h m = rw (← e, whole, lt-ltb (from + size - from) (2 ^ 64) (omega arith), lt-leb (from + size) (length s) (omega arith))
+  pub child-beyond : 2 ^ 64 ≤ size → refused 27 ≡ standing (whole 3 n) (fine box)
+  unfolding whole
+  child-beyond h = rw (whole, le-ltb (from + size - from) (2 ^ 64) (omega arith))
 
-  pub child-whole : size < 2 ^ 64 → size ≤ length s - from → fine (boxOf at kind from (from + size)) ≡ childAt s at
-  unfolding childAt boxAt whole
-  child-whole h m =
-      let i = begins 3 s at e in
-      rw (← e, whole, lt-ltb (from + size - from) (2 ^ 64) (omega arith), le-leb (from + size) (length s) (omega arith))
+  pub child-cut : size < 2 ^ 64 → n < from + size → refused 3 ≡ standing (whole 3 n) (fine box)
+  unfolding whole
+  child-cut h m = rw (whole, lt-ltb (from + size - from) (2 ^ 64) (omega arith), lt-leb (from + size) n m)
 
+  pub child-whole : size < 2 ^ 64 → from + size ≤ n → fine box ≡ standing (whole 3 n) (fine box)
+  unfolding whole
+  child-whole h m = rw (whole, lt-ltb (from + size - from) (2 ^ 64) (omega arith), le-leb (from + size) n m)
+
+-- at the top level
 pub file-opened : (s : List ℕ) (at : ℕ) {b : Box} → fine b ≡ announced 2 s at → (b .kind ≡ ftyp) ⊎ (b .kind ≡ meta) → fine b ≡ fileBoxAt s at
 unfolding fileBoxAt boxAt skips
 file-opened s at e (inl k) = rw (← e, skips, k)

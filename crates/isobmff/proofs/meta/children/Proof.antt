@@ -3,21 +3,25 @@ use mathlib.Core.Path.{_≡_}
 use Prim.Native.Nat.{_-_}
 use native.Mathlib.Omega.{arith}
 use lib.ListN.{length}
-use Rattle.rules.specs.Laws.Headers.{child-inside}
-use Rattle.isobmff.specs.Told.{seenOf}
-use Rattle.isobmff.specs.Children.{childrenFrom, childrenOver, children-start, children-over, child-cut, child-read}
+use Rattle.rules.specs.Laws.Headers.{child-at, child-inside}
+use Rattle.isobmff.specs.Told.{stateOf}
+use Rattle.isobmff.specs.Children.{childrenFrom, childrenOver, children-start, children-over}
+use Rattle.isobmff.specs.Children.{child-cut, child-iinf, child-iloc, child-idat, child-other}
 use borrow.Author.Needs.{needs}
 use Rattle.isobmff.proofs.meta.children.Statement.{statement}
 use Rattle.isobmff.proofs.meta.children.Tie as tie
 
 abbrev Inv-loop : tie.InvT-loop
-Inv-loop body at₀ seen₀ at seen = childrenFrom body at (seenOf seen) ≡ childrenOver body
+Inv-loop body at₀ item-id₀ iloc₀ idat₀ at item-id iloc idat = childrenFrom body at (stateOf item-id iloc idat) ≡ childrenOver body
 
 abbrev μ-loop : tie.MeasureT-loop
-μ-loop body at₀ seen₀ at seen = length body - at
+μ-loop body at₀ item-id₀ iloc₀ idat₀ at item-id iloc idat = length body - at
 
 loop-holds : tie.Need-loop-holds Inv-loop μ-loop
 loop-holds c = children-start _
+
+read-requires : tie.Need-read-requires Inv-loop μ-loop
+read-requires c κs = search needs
 
 child-box-requires : tie.Need-child-box-requires Inv-loop μ-loop
 child-box-requires c κs = search needs
@@ -27,50 +31,107 @@ enum-known-e c = search needs
 
 returns : tie.Need-returns Inv-loop μ-loop
 returns c =
-    let e = c .before in
-    let box = e .before .before in
-    let test = box .before in
-    let turn = test .before in
-    child-cut _ _ _ (turn .loop .inv) (test .loop-test .taken) (rw (e .e .given .1) at (box .child-box .ensures))
+    let box = c .before .before .before in
+    let b = rw (c .before .e .given .1) at (child-at _ _ (box .before .read .ensures 3) (box .child-box .ensures _)) in
+    let turn = box .before .before in
+    child-cut _ _ _ (turn .before .loop .inv) (turn .loop-test .taken) b
 
 enum-known-kind : tie.Need-enum-known-kind Inv-loop μ-loop
 enum-known-kind c = search needs
 
-child-requires : tie.Need-child-requires Inv-loop μ-loop
-child-requires c κs =
-    let i = child-inside _ _ (rw (c .before .kind .given .1) at (c .before .before .before .child-box .ensures)) in
-    (i .order, i .inner)
+sub-parse-iinf : tie.Need-sub-parse-iinf Inv-loop μ-loop
+sub-parse-iinf c =
+    let box = c .before .before .before .before in
+    child-inside _ _ (rw (c .before .before .kind .given .1) at (child-at _ _ (box .before .read .ensures 3) (box .child-box .ensures _))) .order
+
+part-parse-iinf-start : tie.Need-part-parse-iinf-start Inv-loop μ-loop
+part-parse-iinf-start c =
+    let box = c .before .before .before .before in
+    let i = child-inside _ _ (rw (c .before .before .kind .given .1) at (child-at _ _ (box .before .read .ensures 3) (box .child-box .ensures _))) in
+    omega arith
+
+part-parse-iinf-end : tie.Need-part-parse-iinf-end Inv-loop μ-loop
+part-parse-iinf-end c =
+    let box = c .before .before .before .before in
+    child-inside _ _ (rw (c .before .before .kind .given .1) at (child-at _ _ (box .before .read .ensures 3) (box .child-box .ensures _))) .inner
+
+parse-iinf-requires : tie.Need-parse-iinf-requires Inv-loop μ-loop
+parse-iinf-requires c κs = search needs
 
 enum-known-e-2 : tie.Need-enum-known-e-2 Inv-loop μ-loop
 enum-known-e-2 c = search needs
 
 returns-2 : tie.Need-returns-2 Inv-loop μ-loop
 returns-2 c =
-    let e2 = c .before in
-    let child = e2 .before .before in
-    let kind = child .before .before in
+    let read = c .before .before .before in
+    let type = read .before .before in
+    let kind = type .before .before in
     let box = kind .before .before in
-    let test = box .before in
-    let turn = test .before in
-    child-read _ _ _ (turn .loop .inv) (test .loop-test .taken) (rw (kind .kind .given .1) at (box .child-box .ensures)) (rw (e2 .e2 .given .1) at (child .child .ensures))
+    let b = rw (kind .kind .given .1) at (child-at _ _ (box .before .read .ensures 3) (box .child-box .ensures _)) in
+    let o = rw (c .before .e2 .given .1) at (read .parse-iinf .ensures) in
+    let turn = box .before .before in
+    child-iinf _ _ _ (turn .before .loop .inv) (turn .loop-test .taken) b (type .match2 .keys1) o
 
-enum-known-next : tie.Need-enum-known-next Inv-loop μ-loop
-enum-known-next c = search needs
+enum-known-id : tie.Need-enum-known-id Inv-loop μ-loop
+enum-known-id c = search needs
 
 loop-less : tie.Need-loop-less Inv-loop μ-loop
 loop-less c =
-    let i = child-inside _ _ (rw (c .before .before .before .before .before .kind .given .1) at (c .before .before .before .before .before .before .before .child-box .ensures)) in
+    let kind = c .before .before .before .before .before .before .before in
+    let box = kind .before .before in
+    let i = child-inside _ _ (rw (kind .kind .given .1) at (child-at _ _ (box .before .read .ensures 3) (box .child-box .ensures _))) in
     omega arith
 
 loop-again : tie.Need-loop-again Inv-loop μ-loop
 loop-again c =
-    let next = c .before in
-    let child = next .before .before in
-    let kind = child .before .before in
+    let read = c .before .before .before in
+    let type = read .before .before in
+    let kind = type .before .before in
     let box = kind .before .before in
-    let test = box .before in
-    let turn = test .before in
-    child-read _ _ _ (turn .loop .inv) (test .loop-test .taken) (rw (kind .kind .given .1) at (box .child-box .ensures)) (rw (next .next .given .1) at (child .child .ensures))
+    let b = rw (kind .kind .given .1) at (child-at _ _ (box .before .read .ensures 3) (box .child-box .ensures _)) in
+    let o = rw (c .before .id .given .1) at (read .parse-iinf .ensures) in
+    let turn = box .before .before in
+    child-iinf _ _ _ (turn .before .loop .inv) (turn .loop-test .taken) b (type .match2 .keys1) o
+
+loop-less-2 : tie.Need-loop-less-2 Inv-loop μ-loop
+loop-less-2 c =
+    let box = c .before .before .before .before in
+    let i = child-inside _ _ (rw (c .before .before .kind .given .1) at (child-at _ _ (box .before .read .ensures 3) (box .child-box .ensures _))) in
+    omega arith
+
+loop-again-2 : tie.Need-loop-again-2 Inv-loop μ-loop
+loop-again-2 c =
+    let box = c .before .before .before .before in
+    let b = rw (c .before .before .kind .given .1) at (child-at _ _ (box .before .read .ensures 3) (box .child-box .ensures _)) in
+    let turn = box .before .before in
+    child-iloc _ _ _ (turn .before .loop .inv) (turn .loop-test .taken) b (c .match2 .keys2)
+
+loop-less-3 : tie.Need-loop-less-3 Inv-loop μ-loop
+loop-less-3 c =
+    let box = c .before .before .before .before in
+    let i = child-inside _ _ (rw (c .before .before .kind .given .1) at (child-at _ _ (box .before .read .ensures 3) (box .child-box .ensures _))) in
+    omega arith
+
+loop-again-3 : tie.Need-loop-again-3 Inv-loop μ-loop
+loop-again-3 c =
+    let box = c .before .before .before .before in
+    let b = rw (c .before .before .kind .given .1) at (child-at _ _ (box .before .read .ensures 3) (box .child-box .ensures _)) in
+    let turn = box .before .before in
+    child-idat _ _ _ (turn .before .loop .inv) (turn .loop-test .taken) b (c .match2 .keys3)
+
+loop-less-4 : tie.Need-loop-less-4 Inv-loop μ-loop
+loop-less-4 c =
+    let box = c .before .before .before .before in
+    let i = child-inside _ _ (rw (c .before .before .kind .given .1) at (child-at _ _ (box .before .read .ensures 3) (box .child-box .ensures _))) in
+    omega arith
+
+loop-again-4 : tie.Need-loop-again-4 Inv-loop μ-loop
+loop-again-4 c =
+    let box = c .before .before .before .before in
+    let b = rw (c .before .before .kind .given .1) at (child-at _ _ (box .before .read .ensures 3) (box .child-box .ensures _)) in
+    let turn = box .before .before in
+    let type = c .match2 .rest in
+    child-other _ _ _ (turn .before .loop .inv) (turn .loop-test .taken) b (type .0 .0 .1) (type .0 .1) (type .1)
 
 returns-3 : tie.Need-returns-3 Inv-loop μ-loop
 returns-3 c = children-over _ _ _ (c .before .loop .inv) (c .loop-test .left)
@@ -82,14 +143,24 @@ children-spec =
     Inv-loop
     μ-loop
     loop-holds
+    read-requires
     child-box-requires
     enum-known-e
     returns
     enum-known-kind
-    child-requires
+    sub-parse-iinf
+    part-parse-iinf-start
+    part-parse-iinf-end
+    parse-iinf-requires
     enum-known-e-2
     returns-2
-    enum-known-next
+    enum-known-id
     loop-less
     loop-again
+    loop-less-2
+    loop-again-2
+    loop-less-3
+    loop-again-3
+    loop-less-4
+    loop-again-4
     returns-3)

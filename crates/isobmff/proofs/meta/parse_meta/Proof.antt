@@ -19,8 +19,8 @@ children-requires c κs = search needs
 enum-known-e-2 : tie.Need-enum-known-e-2
 enum-known-e-2 c = search needs
 
-enum-known-seen : tie.Need-enum-known-seen
-enum-known-seen c = search needs
+enum-known-item-id : tie.Need-enum-known-item-id
+enum-known-item-id c = search needs
 
 after-requires : tie.Need-after-requires
 after-requires c κs = search needs
@@ -39,12 +39,14 @@ returns-2 c =
 
 returns-3 : tie.Need-returns-3
 returns-3 c =
-    let seen = c .before .before in
-    let children = seen .before .before in
+    let read = c .before .before in
+    let children = read .before .before in
     let m2 = children .before in
     let version = m2 .before .before in
     let head = version .before .before in
-    rw (meta-children _ (rw (version .version .given .1) at (head .fullbox-header .ensures)) (m2 .match2 .keys1) (rw (seen .seen .given .1) at (children .children .ensures))) at (c .after .ensures)
+    let v = rw (version .version .given .1) at (head .fullbox-header .ensures) in
+    let left = rw (read .item-id .given .1) at (children .children .ensures) in
+    rw (meta-children _ v (m2 .match2 .keys1) left) at (c .after .ensures)
 
 returns-4 : tie.Need-returns-4
 returns-4 c =
@@ -61,7 +63,7 @@ parse-meta-spec =
     enum-known-version
     children-requires
     enum-known-e-2
-    enum-known-seen
+    enum-known-item-id
     after-requires
     returns
     returns-2
