@@ -15,6 +15,7 @@ pub mod Totals
 pub mod Over
 pub mod Gather
 pub mod Lent
+pub mod Limit
 pub mod Agreement
 pub mod SameBoxes
 pub mod Refusals

@@ -1,5 +1,5 @@
 -- Demand 1: every image gets the block's length or a number; a refusal changes no byte of the output, success changes the block's bytes only; the
--- room refusal is given exactly when the block is longer than the buffer.
+-- room refusal is given exactly when the block is longer than the buffer. And how large the length and the number can be.
 use mathlib.Core.Path.{_≡_, refl}
 use Prim.Native.Nat.{ℕ, _≤_, _<_}
 use native.Mathlib.Omega.{arith}
@@ -13,7 +13,8 @@ use Rattle.rules.specs.Doc.Outcomes.{if_then_else_, Outcome, fine, refus
 use Rattle.rules.specs.Doc.Bytes.{byteAt}
 use Rattle.rules.specs.Doc.Block.{bytesAt, block}
 use Rattle.rules.specs.Doc.Answers.{Answer, handed, answerWith, answer}
-use Rattle.rules.specs.Laws.Refusals.{Numbered, block-numbered, not-given, room-length}
+use Rattle.rules.specs.Laws.Refusals.{Numbered, block-numbered, not-given, number-below, room-length}
+use Rattle.rules.specs.Laws.Limit.{block-limit}
 
 -- there is a block, and it is longer than the buffer
 pub record Longer (img out : List ℕ) : Type 0 where
@@ -75,6 +76,35 @@ module _ (img out : List ℕ) where
   pub needs-length : answer img out .number ≡ 28 → 0 < answer img out .length
   unfolding answer
   needs-length h = room-length out _ (block img) (block-numbered img) h
+
+  length-by : (o : Outcome (List ℕ)) → block img ≡ o → answerBy o .length ≤ 65531
+  unfolding answerBy answerWith
+  length-by (refused n) e = omega arith
+  length-by (fine ps) e = block-limit img e
+
+  -- No length is above 65,531, so a buffer of that length has room for every block.
+  pub length-limit : answer img out .length ≤ 65531
+  unfolding answer answerBy
+  length-limit = length-by (block img) refl
+
+  pub always-room : 65531 ≤ length out → answer img out .number ≡ 28 → ⊥
+  always-room h e =
+      let l = room-only-then e in
+      omega (arith, l .longer, block-limit img (l .is-block))
+
+  number-by : (o : Outcome (List ℕ)) → Numbered o → answerBy o .number ≤ 28
+  unfolding answerBy answerWith
+  number-by (refused n) p = omega (arith, number-below n p)
+  number-by (fine ps) p = go (leb (length ps) (length out))
+    where
+      go : (t : Bool) → (if t then 0 else 28) ≤ 28
+      go true = omega arith
+      go false = omega arith
+
+  -- No number is above 28.
+  pub number-limit : answer img out .number ≤ 28
+  unfolding answer answerBy
+  number-limit = number-by (block img) (block-numbered img)
 
   -- what is put in front of the output: the block, if there is room
   unfoldable front : List ℕ → Bool → List ℕ

@@ -1,13 +1,13 @@
 -- Every step before the room refuses with a number from 1 to 27. Steps 7 to 10 are gone through over bytes; what holds there holds over positions.
 use mathlib.Core.Path.{_≡_, refl, sym, subst}
-use Prim.Native.Nat.{ℕ, zero, suc, _+_, _-_, _/_, _%_, _^_, _<_}
+use Prim.Native.Nat.{ℕ, zero, suc, _+_, _-_, _/_, _%_, _^_, _≤_, _<_}
 use native.Mathlib.Omega.{arith}
 use mathlib.Core.Bool.{Bool, true, false, _&&_, _||_}
 use mathlib.Core.Option.{Option, none, some}
 use mathlib.Core.List.{List, [], _∷_}
 use lib.ListN.{length}
 use lib.Dec.{T, leb, ltb, eqb}
-use borrow.Author.Tests.{leb-false}
+use borrow.Author.Tests.{leb-true, leb-false}
 use Rattle.rules.specs.Doc.Outcomes.{if_then_else_, Outcome, fine, refused, _>>=_, require, given}
 use Rattle.rules.specs.Doc.Lists.{any, only, lastOf}
 use Rattle.rules.specs.Doc.Bytes.{Span, sizeOf, bytesIn, field, sized, version}
@@ -319,6 +319,13 @@ block-numbered img = go (block img) (subst Numbered (sym (block-lent img)) (byte
 -- a number that is not among 1 to 27 is not given
 pub not-given : (n k : ℕ) → Numbered {A = List ℕ} (refused n) → n ≡ k → (InTable k → ⊥) → ⊥
 not-given n k (with-number p) e out = out (rw e at p)
+
+-- none is above 27
+pub number-below : (n : ℕ) → Numbered {A = List ℕ} (refused n) → n ≤ 27
+number-below n (with-number p) = leb-true n 27 (go (leb 1 n) (leb n 27) p)
+  where
+    go : (a b : Bool) → T (a && b) → b ≡ true
+    go true true p = refl
 
 -- 28 carries the length that is needed, which is not 0
 pub room-length : (out bytes : List ℕ) (o : Outcome (List ℕ)) → Numbered o → answerWith out bytes o .number ≡ 28 → 0 < answerWith out bytes o .length

@@ -11,7 +11,7 @@ use Rattle.rules.specs.Doc.Outcomes.{if_then_else_, Outcome, fine, refus
 use Rattle.rules.specs.Doc.Lists.{each}
 use Rattle.rules.specs.Doc.Bytes.{Span, sizeOf}
 use Rattle.rules.specs.Doc.Iloc.{Extent}
-use Rattle.rules.specs.Laws.Rows.{apart}
+use Rattle.rules.specs.Laws.Rows.{apart, bind-fine}
 use Rattle.rules.specs.Laws.Numbers.{part-length}
 use Rattle.rules.specs.Laws.Places.{EndsIn}
 use Rattle.rules.specs.OverBytes.{partOf, gathered, added, totalFrom}
@@ -38,6 +38,16 @@ added-below total (fine p) {t} e = go (ltb 65535 (total + sizeOf p)) refl e
     go false f e =
         let k : t ≡ total + sizeOf p = cc in
         omega (arith, ltb-false 65535 (total + sizeOf p) f)
+
+-- nor is the total of all extents
+pub total-below : (place : Extent → Outcome Span) (t₀ : ℕ) (xs : List Extent) {t : ℕ} → t₀ ≤ 65535 → fine t ≡ totalFrom place t₀ xs → t ≤ 65535
+unfolding totalFrom
+total-below place t₀ [] {t} h e =
+    let k : t ≡ t₀ = cc in
+    omega arith
+total-below place t₀ (x ∷ xs) h e =
+    let (u, f, g) = bind-fine (added t₀ (place x)) (λ u. totalFrom place u xs) e in
+    total-below place u xs (added-below t₀ (place x) f) g
 
 -- in a pass over extents: T is the total of all, and those from here on decide it
 module _ (place : Extent → Outcome Span) (t : ℕ) {xs : List Extent} {T : Outcome ℕ} (inv : totalFrom place t xs ≡ T) where

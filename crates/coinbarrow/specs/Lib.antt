@@ -1,0 +1,4 @@
+pub mod Halves
+pub mod Packed
+pub mod Callers
+pub mod Unique

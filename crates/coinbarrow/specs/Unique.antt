@@ -1,0 +1,18 @@
+-- No two outcomes, number and output together, meet a contract of this crate.
+use mathlib.Core.Path.{_≡_, sym, ap, _∙_}
+use mathlib.Core.Bool.{Bool}
+use mathlib.Core.List.{List}
+use Prim.Native.Nat.{ℕ}
+use Rattle.rules.specs.Doc.Answers.{Answer, answer}
+use Rattle.rules.specs.Doc.Heif.{isHeif}
+use Rattle.coinbarrow.specs.Halves.{unpacked}
+use Rattle.coinbarrow.specs.Callers.{is-sum}
+
+-- of `coinbarrow_exif`
+pub exif-one : (img out : List ℕ) (r s : ℕ) (after after′ : List ℕ) → unpacked r after ≡ answer img out → unpacked s after′ ≡ answer img out
+    → (r ≡ s) × (after ≡ after′)
+exif-one img out r s after after′ e f = (is-sum img out r after e ∙ sym (is-sum img out s after′ f), ap (λ (a : Answer). a .output) (e ∙ sym f))
+
+-- of `coinbarrow_is_heif`
+pub heif-one : (bytes : List ℕ) {x y : Bool} → x ≡ isHeif bytes → y ≡ isHeif bytes → x ≡ y
+heif-one bytes e f = e ∙ sym f

@@ -1,0 +1,58 @@
+/*
+ * Coinbarrow: the Exif block of a HEIF image. Link libcoinbarrow.a, which is for x86-64 Linux.
+ *
+ * Bytes are passed as a pointer and a length. Where a length is 0 the pointer isn't used, and may be null. `out` must not overlap `image`.
+ * A call reads only the bytes of `image` and writes only the bytes of `out`. It allocates nothing and keeps nothing for later, so calls may run on
+ * several threads at once, if nobody else writes the image or uses the output meanwhile.
+ */
+#ifndef COINBARROW_H
+#define COINBARROW_H
+
+#include <stdbool.h>
+#include <stddef.h>
+#include <stdint.h>
+
+#ifdef __cplusplus
+extern "C" {
+#endif
+
+/* No block is longer than this: an output of so many bytes always has room. */
+#define COINBARROW_LONGEST 65531
+
+/*
+ * The Exif block of `image` goes to the front of `out`. The answer has a number and a length, which the two functions below take out of it.
+ *
+ *   0  done; the length is the block's, and `out` is unchanged behind it
+ *  28  no room: `out` is shorter than the block; the length is the block's, and `out` is unchanged
+ *
+ * Any other number says why there is no block; then the length is 0, and `out` is unchanged.
+ *
+ *   1  not found                  10  iloc version               19  invalid length
+ *   2  image ends too soon        11  base offset size           20  out of idat
+ *   3  box too small              12  index size                 21  no idat
+ *   4  invalid box size           13  offset size                22  by item offset
+ *   5  large seek                 14  length size                23  unknown method
+ *   6  meta before ftyp           15  external data reference    24  over 65,535 bytes
+ *   7  no known brand             16  no iloc                    25  under 4 bytes
+ *   8  meta version               17  no matching entry          26  header offset
+ *   9  infe version               18  invalid offset             27  beyond the address space
+ */
+uint64_t coinbarrow_exif(const uint8_t *image, size_t image_len, uint8_t *out, size_t out_len);
+
+/* The number is the upper half of the answer, the length the lower. */
+static inline unsigned coinbarrow_number(uint64_t answer) {
+    return (unsigned)(answer >> 32);
+}
+
+static inline size_t coinbarrow_length(uint64_t answer) {
+    return (size_t)(answer & 0xffffffff);
+}
+
+/* Whether the first `ftyp` box has `mif1` or `msf1` among its compatible brands. It and the boxes before it must be whole. */
+bool coinbarrow_is_heif(const uint8_t *bytes, size_t bytes_len);
+
+#ifdef __cplusplus
+}
+#endif
+
+#endif

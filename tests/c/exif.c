@@ -1,0 +1,83 @@
+/* Calls Coinbarrow on document 01's file H and on images near it, a line a call. The lines that it must print are in the file `stdout` beside it. */
+#include <stdio.h>
+
+#include "coinbarrow.h"
+
+/* One box a line. */
+static const uint8_t h[] =
+    "\0\0\0\x14" "ftyp" "mif1" "\0\0\0\0" "mif1"
+    "\0\0\0\x60" "meta" "\0\0\0\0"
+    "\0\0\0\x23" "iinf" "\0\0\0\0" "\0\1"
+    "\0\0\0\x15" "infe" "\2\0\0\0" "\0\1" "\0\0" "Exif" "\0"
+    "\0\0\0\x20" "iloc" "\1\0\0\0" "\x44\0" "\0\1" "\0\1" "\0\1" "\0\0" "\0\1" "\0\0\0\0" "\0\0\0\0"
+    "\0\0\0\x11" "idat" "\0\0\0\1" "\xaa" "\x4d\x4d\0\x2a";
+
+enum {
+    H_LEN = sizeof h - 1, /* without the zero that ends a C string */
+    META = 20,            /* where boxes of H begin */
+    IDAT = 99,
+    IDAT_BODY = 107,
+    EXTENT_LENGTH = 98,   /* where the last byte of a field is */
+    BLOCK_OFFSET = 110,
+    SHOWN = 8
+};
+
+/* The output is the first `room` bytes of a buffer that holds a5 before the call. How many of all its bytes changed shows whether anything was
+ * written behind the block. */
+static void call(const char *name, const uint8_t *image, size_t image_len, size_t room) {
+    static uint8_t buffer[COINBARROW_LONGEST + SHOWN];
+    size_t i, changed = 0;
+    uint64_t answer;
+    for (i = 0; i < sizeof buffer; i++) buffer[i] = 0xa5;
+    answer = coinbarrow_exif(image, image_len, room == 0 ? NULL : buffer, room);
+    for (i = 0; i < sizeof buffer; i++) changed += buffer[i] != 0xa5;
+    printf("%s, output of %zu: ", name, room);
+    printf("number=%u length=%zu heif=%d", coinbarrow_number(answer), coinbarrow_length(answer), coinbarrow_is_heif(image, image_len));
+    printf(" changed=%zu buffer=", changed);
+    for (i = 0; i < SHOWN; i++) printf("%02x", buffer[i]);
+    printf("\n");
+}
+
+/* H with one byte changed. */
+static void call_changed(const char *name, size_t at, uint8_t byte) {
+    uint8_t image[H_LEN];
+    size_t i;
+    for (i = 0; i < H_LEN; i++) image[i] = h[i];
+    image[at] = byte;
+    call(name, image, H_LEN, SHOWN);
+}
+
+static void put_size(uint8_t *box, size_t size) {
+    box[0] = (uint8_t)(size >> 24);
+    box[1] = (uint8_t)(size >> 16);
+    box[2] = (uint8_t)(size >> 8);
+    box[3] = (uint8_t)size;
+}
+
+/* H with `body` zeros in `idat`. They say offset 0, so all but the first four of them are the block. */
+static void call_longer(const char *name, size_t body, size_t room) {
+    static uint8_t image[IDAT_BODY + 65536];
+    size_t i;
+    for (i = 0; i < IDAT_BODY; i++) image[i] = h[i];
+    put_size(image + META, IDAT_BODY + body - META);
+    put_size(image + IDAT, IDAT_BODY + body - IDAT);
+    call(name, image, IDAT_BODY + body, room);
+}
+
+int main(void) {
+    call("H", h, H_LEN, 8);
+    call("H", h, H_LEN, 4);
+    call("H", h, H_LEN, 3);
+    call("H", h, H_LEN, 0);
+    call("H cut to 115 bytes", h, 115, 8);
+    call("H cut to 20 bytes", h, 20, 8);
+    call("H cut to 19 bytes", h, 19, 8);
+    call("no image", NULL, 0, 8);
+    call_changed("H with an extent of 10 bytes, of 9 in idat", EXTENT_LENGTH, 10);
+    call_changed("H with offset 5, an empty block", BLOCK_OFFSET, 5);
+    call_changed("H with offset 6", BLOCK_OFFSET, 6);
+    call_longer("H with 65535 bytes in idat", 65535, COINBARROW_LONGEST);
+    call_longer("H with 65535 bytes in idat", 65535, COINBARROW_LONGEST - 1);
+    call_longer("H with 65536 bytes in idat", 65536, COINBARROW_LONGEST);
+    return 0;
+}

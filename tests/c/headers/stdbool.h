@@ -1,0 +1,3 @@
+#ifndef __cplusplus
+#define bool _Bool
+#endif

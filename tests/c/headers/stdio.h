@@ -1,0 +1,4 @@
+#ifdef __cplusplus
+extern "C"
+#endif
+int printf(const char *format, ...);

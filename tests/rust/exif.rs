@@ -1,0 +1,52 @@
+//! Coinbarrow from Rust: a safe function for each of the two that include/coinbarrow.h declares, tried on document 01's file H.
+
+extern "C" {
+    fn coinbarrow_exif(image: *const u8, image_len: usize, out: *mut u8, out_len: usize) -> u64;
+    fn coinbarrow_is_heif(bytes: *const u8, bytes_len: usize) -> bool;
+}
+
+#[derive(Debug, PartialEq)]
+enum Refused {
+    /// The block has so many bytes, and `out` has less.
+    NoRoom(usize),
+    /// There is no block; the header says what the number means.
+    By(u32),
+}
+
+/// The Exif block of an image, at the front of `out`.
+fn exif<'a>(image: &[u8], out: &'a mut [u8]) -> Result<&'a [u8], Refused> {
+    // SAFETY: both are slices, and `out` is borrowed mutably, so it overlaps nothing.
+    let answer =
+        unsafe { coinbarrow_exif(image.as_ptr(), image.len(), out.as_mut_ptr(), out.len()) };
+    let (number, length) = ((answer >> 32) as u32, answer as u32 as usize);
+    match number {
+        0 => Ok(&out[..length]),
+        28 => Err(Refused::NoRoom(length)),
+        _ => Err(Refused::By(number)),
+    }
+}
+
+fn is_heif(bytes: &[u8]) -> bool {
+    // SAFETY: it is a slice.
+    unsafe { coinbarrow_is_heif(bytes.as_ptr(), bytes.len()) }
+}
+
+/// One box a line.
+const H: &[u8] = b"\
+    \0\0\0\x14ftypmif1\0\0\0\0mif1\
+    \0\0\0\x60meta\0\0\0\0\
+    \0\0\0\x23iinf\0\0\0\0\0\x01\
+    \0\0\0\x15infe\x02\0\0\0\0\x01\0\0Exif\0\
+    \0\0\0\x20iloc\x01\0\0\0\x44\0\0\x01\0\x01\0\x01\0\0\0\x01\0\0\0\0\0\0\0\0\
+    \0\0\0\x11idat\0\0\0\x01\xaa\x4d\x4d\0\x2a";
+
+fn main() {
+    let mut out = [0xa5; 8];
+    assert_eq!(exif(H, &mut out), Ok(&b"\x4d\x4d\0\x2a"[..]));
+    assert_eq!(out[4..], [0xa5; 4]);
+    assert_eq!(exif(H, &mut out[..3]), Err(Refused::NoRoom(4)));
+    assert_eq!(exif(&H[..115], &mut out), Err(Refused::By(2)));
+    assert_eq!(exif(&[], &mut []), Err(Refused::By(1)));
+    assert!(is_heif(H));
+    assert!(!is_heif(&H[..19]));
+}
