@@ -1,0 +1,6 @@
+//! What is measured: the images, the rows that they make, and the two sides.
+
+pub mod images;
+pub mod rows;
+pub mod sides;
+pub mod table;

@@ -1,0 +1,31 @@
+//! The tables of both sides. bench/run starts it, with one of:
+//!
+//!     time           measures by the clock, and prints the tables
+//!     marks          makes the calls between marks, for bench/count-insns
+//!     counted FILE   prints the tables of what was counted
+
+mod meters;
+mod tables;
+
+use bench::rows;
+use meters::{Clock, Counted, Marks, BATCHES, CALLS};
+
+fn main() {
+    let words: Vec<String> = std::env::args().skip(1).collect();
+    let groups = rows::groups();
+    tables::agree(&groups);
+    match words.iter().map(String::as_str).collect::<Vec<_>>()[..] {
+        ["time"] => {
+            let pairs = tables::measure(&groups, Clock);
+            println!("TIME a call, in nanoseconds (ns): the fastest of {BATCHES} batches, in which the sides take turns.\n");
+            tables::print(&groups, &pairs, "ns");
+        }
+        ["marks"] => drop(tables::measure(&groups, Marks)),
+        ["counted", file] => {
+            let pairs = tables::measure(&groups, Counted::read(file));
+            println!("INSTRUCTIONS that a call executes, the mean of {CALLS} calls, counted by an emulator: exact, but no measure of time.\n");
+            tables::print(&groups, &pairs, "instructions");
+        }
+        _ => panic!("bench time, bench marks, or bench counted FILE"),
+    }
+}

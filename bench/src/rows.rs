@@ -1,0 +1,117 @@
+//! What is measured: which call, on which image. KB and MB are 1,000 and 1,000,000 bytes.
+
+use crate::images::{self, Phone};
+
+#[derive(Clone, Copy)]
+pub enum Call {
+    Exif,
+    Heif,
+    Empty,
+}
+
+pub struct Row {
+    pub name: &'static str,
+    pub call: Call,
+    pub image: Vec<u8>,
+}
+
+/// The rows of a table. In one of growth, rows of the same name follow each other, each with ten times more of what the name says.
+pub struct Group {
+    pub title: &'static str,
+    pub growth: bool,
+    pub rows: Vec<Row>,
+}
+
+pub fn groups() -> Vec<Group> {
+    vec![
+        Group { title: "Extraction", growth: false, rows: extraction() },
+        Group { title: "`is_heif`", growth: false, rows: heif() },
+        Group { title: "Extraction as the image grows tenfold", growth: true, rows: extraction_growth() },
+        Group { title: "`is_heif` as the image grows tenfold", growth: true, rows: heif_growth() },
+    ]
+}
+
+/// 2,000 bytes stand for what a camera writes.
+const PHONE: Phone = Phone { exif: 2_000, mdat: 3_000_000, mdat_first: true, names: false };
+
+/// The longest item; four bytes of offset are before its block.
+const LONGEST: usize = 65_535;
+
+pub fn extraction() -> Vec<Row> {
+    let row = |name, image| Row { name, call: Call::Exif, image };
+    vec![
+        row("H", images::h()),
+        row("phone, `mdat` of 3 MB before `meta`", PHONE.image()),
+        row("phone, `mdat` of 3 MB after `meta`", Phone { mdat_first: false, ..PHONE }.image()),
+        row("phone with names, `mdat` of 3 MB before `meta`", Phone { names: true, ..PHONE }.image()),
+        row("phone with names, `mdat` of 3 MB after `meta`", Phone { names: true, mdat_first: false, ..PHONE }.image()),
+        row("phone, 30 bytes of Exif, `mdat` of 3 MB", Phone { exif: 30, ..PHONE }.image()),
+        row("phone, 30 bytes of Exif, `mdat` of 30 bytes", Phone { exif: 30, mdat: 30, ..PHONE }.image()),
+        row("block of 65,531 bytes, 1 extent, image", images::in_image(LONGEST, 1)),
+        row("block of 65,531 bytes, 1 extent, `idat`", images::in_idat(LONGEST, 1)),
+        row("block of 65,531 bytes, 1,000 extents, image", images::in_image(LONGEST, 1_000)),
+        row("block of 65,531 bytes, 1,000 extents, `idat`", images::in_idat(LONGEST, 1_000)),
+        row("10,000 small top-level boxes", images::top_level(10_000)),
+        row("`ftyp` of 10,000 brands", images::brands(10_000)),
+        row("`meta` of 100,000 children", images::children(100_000)),
+        row("`iinf` of 1 MB: boxes of 8 bytes", images::iinf_of_boxes(1_000_000)),
+        row("`iinf` of 1 MB: `infe`", images::iinf_of_infe(1_000_000)),
+        row("`iloc` of 1 MB: other ids", images::iloc_of_entries(1_000_000, false)),
+        row("`iloc` of 1 MB: the wanted id", images::iloc_of_entries(1_000_000, true)),
+        row("`iloc` of 1 MB: other ids, 65,535 extents of no bytes", images::iloc_of_no_bytes(1_000_000, false)),
+        row("`iloc` of 1 KB: the wanted id, 65,535 extents of no bytes", images::iloc_of_no_bytes(1_000, true)),
+    ]
+}
+
+/// The same images, and one where there is more than one box to walk.
+fn heif() -> Vec<Row> {
+    let mut rows = vec![Row { name: "(an empty call)", call: Call::Empty, image: Vec::new() }];
+    rows.extend(extraction().into_iter().map(|row| Row { call: Call::Heif, ..row }));
+    rows.push(Row { name: "`ftyp` after 10,000 small top-level boxes", call: Call::Heif, image: images::ftyp_last(10_000) });
+    rows
+}
+
+const COUNTS: [usize; 3] = [1_000, 10_000, 100_000];
+const LENGTHS: [usize; 3] = [10_000, 100_000, 1_000_000];
+const ITEMS: [usize; 3] = [655, 6_553, 65_530];
+const EXTENTS: [usize; 3] = [100, 1_000, 10_000];
+const MDATS: [usize; 4] = [3_000, 30_000, 300_000, 3_000_000];
+
+fn grown(name: &'static str, call: Call, sizes: &[usize], image: impl Fn(usize) -> Vec<u8>) -> Vec<Row> {
+    sizes.iter().map(|&size| Row { name, call, image: image(size) }).collect()
+}
+
+fn extraction_growth() -> Vec<Row> {
+    let exif = Call::Exif;
+    [
+        grown("phone, `mdat` before `meta`", exif, &MDATS, |mdat| Phone { mdat, ..PHONE }.image()),
+        grown("phone, `mdat` after `meta`", exif, &MDATS, |mdat| Phone { mdat, mdat_first: false, ..PHONE }.image()),
+        grown("item in 1 extent, image", exif, &ITEMS, |length| images::in_image(length, 1)),
+        grown("item in 1 extent, `idat`", exif, &ITEMS, |length| images::in_idat(length, 1)),
+        grown("extents of 6 bytes, image", exif, &EXTENTS, |count| images::in_image(6 * count, count)),
+        grown("extents of 6 bytes, `idat`", exif, &EXTENTS, |count| images::in_idat(6 * count, count)),
+        grown("small top-level boxes", exif, &COUNTS, images::top_level),
+        grown("brands of `ftyp`", exif, &COUNTS, images::brands),
+        grown("children of `meta`", exif, &COUNTS, images::children),
+        grown("`iinf`: boxes of 8 bytes", exif, &LENGTHS, images::iinf_of_boxes),
+        grown("`iinf`: `infe`", exif, &LENGTHS, images::iinf_of_infe),
+        grown("`iloc`: other ids", exif, &LENGTHS, |length| images::iloc_of_entries(length, false)),
+        grown("`iloc`: the wanted id", exif, &LENGTHS, |length| images::iloc_of_entries(length, true)),
+        grown("`iloc`: other ids, 65,535 extents of no bytes", exif, &LENGTHS, |length| images::iloc_of_no_bytes(length, false)),
+        // Longer ones would take the Rust seconds.
+        grown("`iloc`: the wanted id, 65,535 extents of no bytes", exif, &[10, 100, 1_000], |length| images::iloc_of_no_bytes(length, true)),
+    ]
+    .into_iter()
+    .flatten()
+    .collect()
+}
+
+fn heif_growth() -> Vec<Row> {
+    [
+        grown("small top-level boxes before `ftyp`", Call::Heif, &COUNTS, images::ftyp_last),
+        grown("brands of `ftyp`", Call::Heif, &COUNTS, images::brands),
+    ]
+    .into_iter()
+    .flatten()
+    .collect()
+}

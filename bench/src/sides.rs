@@ -1,0 +1,62 @@
+//! The two sides: the Rust, and ours out of the archive, each behind one call that is not folded into its caller.
+
+use std::hint::black_box;
+
+use oracle::Error;
+
+extern "C" {
+    fn coinbarrow_exif(image: *const u8, image_len: usize, out: *mut u8, out_len: usize) -> u64;
+    fn coinbarrow_is_heif(bytes: *const u8, len: usize) -> bool;
+}
+
+/// Room for every block.
+pub const ROOM: usize = 65_536;
+
+/// What the output holds before a call that is checked.
+const BEFORE: u8 = 0xa5;
+
+#[inline(never)]
+pub fn rust_exif(image: &[u8]) -> Result<Vec<u8>, Error> {
+    oracle::get_exif_attr(image)
+}
+
+#[inline(never)]
+pub fn rust_is_heif(image: &[u8]) -> bool {
+    oracle::is_heif(image)
+}
+
+/// Document 01's number times 2^32, plus the length.
+#[inline(always)]
+pub fn our_exif(image: &[u8], out: &mut [u8]) -> u64 {
+    // SAFETY: both are slices, and ours keeps neither.
+    unsafe { coinbarrow_exif(image.as_ptr(), image.len(), out.as_mut_ptr(), out.len()) }
+}
+
+#[inline(always)]
+pub fn our_is_heif(image: &[u8]) -> bool {
+    // SAFETY: it is a slice, and ours doesn't keep it.
+    unsafe { coinbarrow_is_heif(image.as_ptr(), image.len()) }
+}
+
+/// A call that does nothing: what calling adds to every figure.
+#[inline(never)]
+pub fn empty(_image: &[u8], _out: &mut [u8]) {
+    black_box(());
+}
+
+/// The length of the block, once both sides have given the same one and ours has written nothing else. Stops where they differ.
+pub fn agreed_block(name: &str, image: &[u8]) -> usize {
+    let block = rust_exif(image).unwrap_or_else(|error| panic!("{name}: the Rust gives no block: {error}"));
+    let mut out = vec![BEFORE; ROOM];
+    assert_eq!(our_exif(image, &mut out), block.len() as u64, "{name}: ours has another answer");
+    assert!(out[..block.len()] == block, "{name}: ours has another block");
+    assert!(out[block.len()..].iter().all(|&byte| byte == BEFORE), "{name}: ours wrote behind the block");
+    block.len()
+}
+
+/// Whether it is a HEIF image, once both sides say so. Stops where they differ.
+pub fn agreed_heif(name: &str, image: &[u8]) -> bool {
+    let heif = rust_is_heif(image);
+    assert_eq!(our_is_heif(image), heif, "{name}: ours has another answer");
+    heif
+}

@@ -1,0 +1,89 @@
+//! Every row measured, whatever the meter is, and the tables of the figures.
+
+use std::hint::black_box;
+
+use bench::rows::{Call, Group, Row};
+use bench::sides;
+use bench::table::{grouped, Table};
+
+use crate::meters::{Meter, Pair};
+
+/// The answer that both sides give. Stops where they differ.
+fn agreed(row: &Row) -> String {
+    match row.call {
+        Call::Exif => grouped(sides::agreed_block(row.name, &row.image)),
+        Call::Heif => if sides::agreed_heif(row.name, &row.image) { "yes" } else { "no" }.to_string(),
+        Call::Empty => "-".to_string(),
+    }
+}
+
+/// Both sides give the same answer on every image; nothing is measured before that.
+pub fn agree(groups: &[Group]) {
+    for row in groups.iter().flat_map(|group| &group.rows) {
+        agreed(row);
+    }
+}
+
+/// The output is made once and not cleared between calls. The Rust allocates its answer and it is freed: both are part of its call.
+fn measure_row(row: &Row, meter: &mut impl Meter) -> Pair {
+    let image = &row.image[..];
+    let mut out = vec![0; sides::ROOM];
+    match row.call {
+        Call::Exif => meter.measure(
+            || drop(black_box(sides::rust_exif(black_box(image)))),
+            || _ = black_box(sides::our_exif(black_box(image), black_box(&mut out))),
+        ),
+        Call::Heif => meter.measure(|| _ = black_box(sides::rust_is_heif(black_box(image))), || _ = black_box(sides::our_is_heif(black_box(image)))),
+        Call::Empty => meter.measure(|| sides::empty(black_box(image), &mut []), || sides::empty(black_box(image), &mut [])),
+    }
+}
+
+/// The figures of each group's rows.
+pub fn measure(groups: &[Group], mut meter: impl Meter) -> Vec<Vec<Pair>> {
+    groups.iter().map(|group| group.rows.iter().map(|row| measure_row(row, &mut meter)).collect()).collect()
+}
+
+/// One digit after the point of a small figure, none of another.
+fn figure(number: f64) -> String {
+    if number < 100.0 {
+        format!("{number:.1}")
+    } else {
+        grouped(number.round() as usize)
+    }
+}
+
+/// In bold where ours takes more.
+fn ratio(row: &Row, pair: &Pair) -> String {
+    let ratio = pair.ours / pair.rust;
+    match row.call {
+        Call::Empty => "-".to_string(),
+        _ if ratio < 0.01 => format!("{ratio:.5}"),
+        _ if ratio < 1.005 => format!("{ratio:.2}"),
+        _ => format!("**{ratio:.2}**"),
+    }
+}
+
+/// In a group of growth, what a byte of the image costs too.
+fn line(group: &Group, row: &Row, pair: &Pair) -> Vec<String> {
+    let bytes = row.image.len();
+    let mut line = vec![row.name.to_string(), grouped(bytes), agreed(row), figure(pair.rust), figure(pair.ours), ratio(row, pair)];
+    if group.growth {
+        line.extend([pair.rust, pair.ours].map(|number| format!("{:.4}", number / bytes as f64)));
+    }
+    line
+}
+
+pub fn print(groups: &[Group], pairs: &[Vec<Pair>], unit: &str) {
+    for (group, pairs) in groups.iter().zip(pairs) {
+        let mut head = ["image", "bytes", "answer"].map(str::to_string).to_vec();
+        head.extend([format!("Rust, {unit}"), format!("ours, {unit}"), "ours / Rust".to_string()]);
+        if group.growth {
+            head.extend([format!("Rust, {unit} a byte"), format!("ours, {unit} a byte")]);
+        }
+        let mut table = Table::new(group.title, head);
+        for (row, pair) in group.rows.iter().zip(pairs) {
+            table.add(line(group, row, pair));
+        }
+        table.print();
+    }
+}
