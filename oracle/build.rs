@@ -9,7 +9,7 @@ const FILES: [&str; 4] = ["endian", "util", "error", "isobmff"];
 fn source() -> PathBuf {
     println!("cargo:rerun-if-env-changed=KAMADAK_EXIF_SRC");
     let beside = Path::new(&env::var("CARGO_MANIFEST_DIR").unwrap()).join("../../shared/docs/src");
-    let named = env::var_os("KAMADAK_EXIF_SRC").map_or(beside, PathBuf::from);
+    let named = env::var_os("KAMADAK_EXIF_SRC").filter(|folder| !folder.is_empty()).map_or(beside, PathBuf::from);
     for folder in [named.clone(), named.join("src")] {
         if FILES.iter().all(|file| folder.join(file).with_extension("rs").is_file()) {
             return folder.canonicalize().unwrap();

@@ -1,12 +1,7 @@
 //! The images, made of their boxes. Each has an Exif item, and both sides answer 0 for it.
 
-/// File H of document 01, one box a line.
-const H: &[u8; 116] = b"\x00\x00\x00\x14ftypmif1\x00\x00\x00\x00mif1\
-    \x00\x00\x00\x60meta\x00\x00\x00\x00\
-    \x00\x00\x00\x23iinf\x00\x00\x00\x00\x00\x01\
-    \x00\x00\x00\x15infe\x02\x00\x00\x00\x00\x01\x00\x00Exif\x00\
-    \x00\x00\x00\x20iloc\x01\x00\x00\x00\x44\x00\x00\x01\x00\x01\x00\x01\x00\x00\x00\x01\x00\x00\x00\x00\x00\x00\x00\x00\
-    \x00\x00\x00\x11idat\x00\x00\x00\x01\xaa\x4d\x4d\x00\x2a";
+use oracle::boxes::plain;
+use oracle::every;
 
 /// The id of the Exif item, and one of an item that isn't.
 const EXIF: usize = 1;
@@ -24,8 +19,7 @@ fn four(number: usize) -> [u8; 4] {
 }
 
 fn boxed(kind: &str, parts: &[&[u8]]) -> Vec<u8> {
-    let body = parts.concat();
-    [&four(8 + body.len()), kind.as_bytes(), &body].concat()
+    plain(kind.as_bytes().try_into().expect("four letters"), &parts.concat())
 }
 
 fn ftyp() -> Vec<u8> {
@@ -104,10 +98,6 @@ fn with_boxes(first: &[u8], count: usize, last: &[u8]) -> Vec<u8> {
 /// An item whose block begins right behind its four bytes of offset, with bytes that differ.
 fn item(length: usize) -> Vec<u8> {
     (0..length).map(|k| if k < 4 { 0 } else { (k * 7 + k / 251) as u8 }).collect()
-}
-
-pub fn h() -> Vec<u8> {
-    H.to_vec()
 }
 
 /// A photograph as a phone writes it: 64 items, of which one is Exif, in an `mdat`.
@@ -189,7 +179,7 @@ pub fn top_level(count: usize) -> Vec<u8> {
 
 /// So many small boxes at the top level, and `ftyp` behind them.
 pub fn ftyp_last(count: usize) -> Vec<u8> {
-    with_boxes(&[], count, H)
+    with_boxes(&[], count, &every::h())
 }
 
 /// An `ftyp` with so many brands of which only the last is known.

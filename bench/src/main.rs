@@ -5,7 +5,7 @@
 //!     counted FILE   prints the tables of what was counted
 
 mod meters;
-mod tables;
+mod report;
 
 use bench::rows;
 use meters::{Clock, Counted, Marks, BATCHES, CALLS};
@@ -13,18 +13,20 @@ use meters::{Clock, Counted, Marks, BATCHES, CALLS};
 fn main() {
     let words: Vec<String> = std::env::args().skip(1).collect();
     let groups = rows::groups();
-    tables::agree(&groups);
+    report::agree(&groups);
     match words.iter().map(String::as_str).collect::<Vec<_>>()[..] {
         ["time"] => {
-            let pairs = tables::measure(&groups, Clock);
+            let pairs = report::measure(&groups, Clock);
             println!("TIME a call, in nanoseconds (ns): the fastest of {BATCHES} batches, in which the sides take turns.\n");
-            tables::print(&groups, &pairs, "ns");
+            report::print(&groups, &pairs, "ns");
         }
-        ["marks"] => drop(tables::measure(&groups, Marks)),
+        ["marks"] => drop(report::measure(&groups, Marks)),
         ["counted", file] => {
-            let pairs = tables::measure(&groups, Counted::read(file));
-            println!("INSTRUCTIONS that a call executes, the mean of {CALLS} calls, counted by an emulator: exact, but no measure of time.\n");
-            tables::print(&groups, &pairs, "instructions");
+            let pairs = report::measure(&groups, Counted::read(file));
+            println!(
+                "INSTRUCTIONS that a call executes, the mean of {CALLS} calls, counted by an emulator: exact, but no measure of time.\n"
+            );
+            report::print(&groups, &pairs, "instructions");
         }
         _ => panic!("bench time, bench marks, or bench counted FILE"),
     }

@@ -1,5 +1,7 @@
 //! What is measured: which call, on which image. KB and MB are 1,000 and 1,000,000 bytes.
 
+use oracle::every;
+
 use crate::images::{self, Phone};
 
 #[derive(Clone, Copy)]
@@ -40,7 +42,7 @@ const LONGEST: usize = 65_535;
 pub fn extraction() -> Vec<Row> {
     let row = |name, image| Row { name, call: Call::Exif, image };
     vec![
-        row("H", images::h()),
+        row("H", every::h()),
         row("phone, `mdat` of 3 MB before `meta`", PHONE.image()),
         row("phone, `mdat` of 3 MB after `meta`", Phone { mdat_first: false, ..PHONE }.image()),
         row("phone with names, `mdat` of 3 MB before `meta`", Phone { names: true, ..PHONE }.image()),
@@ -99,7 +101,9 @@ fn extraction_growth() -> Vec<Row> {
         grown("`iloc`: the wanted id", exif, &LENGTHS, |length| images::iloc_of_entries(length, true)),
         grown("`iloc`: other ids, 65,535 extents of no bytes", exif, &LENGTHS, |length| images::iloc_of_no_bytes(length, false)),
         // Longer ones would take the Rust seconds.
-        grown("`iloc`: the wanted id, 65,535 extents of no bytes", exif, &[10, 100, 1_000], |length| images::iloc_of_no_bytes(length, true)),
+        grown("`iloc`: the wanted id, 65,535 extents of no bytes", exif, &[10, 100, 1_000], |length| {
+            images::iloc_of_no_bytes(length, true)
+        }),
     ]
     .into_iter()
     .flatten()

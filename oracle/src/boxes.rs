@@ -3,7 +3,7 @@
 use crate::dice::Dice;
 
 /// The last `size` bytes of a number, big-endian; a size over 8 has zeros in front.
-pub fn number(value: u64, size: usize) -> Vec<u8> {
+pub fn big_endian(value: u64, size: usize) -> Vec<u8> {
     let mut bytes = vec![0; size.saturating_sub(8)];
     bytes.extend(&value.to_be_bytes()[8 - size.min(8)..]);
     bytes
@@ -16,43 +16,55 @@ pub fn plain(kind: &[u8; 4], body: &[u8]) -> Vec<u8> {
 
 /// A box with the sizes that are given, right or wrong.
 pub fn sized(kind: &[u8; 4], size: u64, long: Option<u64>, body: &[u8]) -> Vec<u8> {
-    let mut bytes = number(size, 4);
+    let mut bytes = big_endian(size, 4);
     bytes.extend(kind);
     bytes.extend(long.iter().flat_map(|long| long.to_be_bytes()));
     bytes.extend(body);
     bytes
 }
 
-/// The faults of a size, below: 0 to 7, then by the body's length and by the powers of two.
-const SIZE_FAULTS: [u64; 27] = [0, 1, 2, 3, 4, 5, 6, 7, 10, 11, 12, 13, 14, 20, 21, 22, 23, 24, 25, 26, 27, 28, 29, 30, 31, 32, 33];
+/// The four-byte size of a box, and the eight-byte size where one follows, for a body of n bytes. The first two are right.
+fn sizes(n: u64) -> [(u64, Option<u64>); 29] {
+    let short = |size: u64| (size, None);
+    let long = |size: u64| (1, Some(size));
+    [
+        short(n + 8),
+        long(n + 16),
+        short(0),
+        short(1),
+        short(2),
+        short(3),
+        short(4),
+        short(5),
+        short(6),
+        short(7),
+        short(n + 7),
+        short(n + 9),
+        short(n / 2 + 8),
+        short((1 << 32) - 1),
+        short((1 << 32) - 8),
+        long(n + 15),
+        long(n + 17),
+        long(0),
+        long(15),
+        long(16),
+        long((1 << 32) - 1),
+        long((1 << 32) + n + 16),
+        long((1 << 63) - 1),
+        long(1 << 63),
+        long((1 << 63) + 15),
+        long((1 << 63) + 16),
+        long(u64::MAX - n),
+        long(u64::MAX - 7),
+        long(u64::MAX),
+    ]
+}
 
 /// A box whose size is right, in four bytes or in eight, or has a fault.
 pub fn boxed(dice: &mut Dice, field: &'static str, kind: &[u8; 4], body: &[u8]) -> Vec<u8> {
-    let n = body.len() as u64;
-    let (size, long) = match dice.choose(field, &[8, 8, 8, 8, 8, 9], &SIZE_FAULTS) {
-        8 => (n + 8, None),
-        9 => (1, Some(n + 16)),
-        small @ 0..=7 => (small, None),
-        10 => (n + 7, None),
-        11 => (n + 9, None),
-        12 => (n / 2 + 8, None),
-        13 => ((1 << 32) - 1, None),
-        14 => ((1 << 32) - 8, None),
-        20 => (1, Some(n + 15)),
-        21 => (1, Some(n + 17)),
-        22 => (1, Some(0)),
-        23 => (1, Some(15)),
-        24 => (1, Some(16)),
-        25 => (1, Some((1 << 32) - 1)),
-        26 => (1, Some((1 << 32) + n + 16)),
-        27 => (1, Some((1 << 63) - 1)),
-        28 => (1, Some(1 << 63)),
-        29 => (1, Some((1 << 63) + 15)),
-        30 => (1, Some((1 << 63) + 16)),
-        31 => (1, Some(u64::MAX - n)),
-        32 => (1, Some(u64::MAX - 7)),
-        _ => (1, Some(u64::MAX)),
-    };
+    let sizes = sizes(body.len() as u64);
+    let faults: Vec<u64> = (2..sizes.len() as u64).collect();
+    let (size, long) = sizes[dice.choose(field, &[0, 0, 0, 0, 0, 1], &faults) as usize];
     sized(kind, size, long, body)
 }
 

@@ -2,7 +2,7 @@
 
 use crate::dice::Dice;
 
-#[derive(Clone, PartialEq)]
+#[derive(Clone)]
 pub struct Case {
     pub image: Vec<u8>,
     pub out: usize,

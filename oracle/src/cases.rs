@@ -5,10 +5,9 @@ use crate::damage::damaged;
 use crate::dice::Dice;
 use crate::{every, grow};
 
-/// H cut and changed and rows of boxes, with every output length that matters to a block of four bytes; then headers and the shortest images.
+/// H and its neighbours, with every output length that matters to a block of four bytes; then headers and the shortest images.
 pub fn always(shortest: u32) -> impl Iterator<Item = Case> {
-    let near_h = every::truncations().chain(every::single_bytes()).chain(every::rows());
-    let near_h = near_h.flat_map(|image| [0, 1, 3, 4, 5, 8].map(|out| Case { image: image.clone(), out }));
+    let near_h = every::neighbours().flat_map(|image| [0, 1, 3, 4, 5, 8].map(|out| Case { image: image.clone(), out }));
     let others = every::headers().chain(every::shortest(shortest));
     near_h.chain(others.map(|image| Case { image, out: 1 }))
 }

@@ -1,6 +1,6 @@
 //! Copies of a file with something broken in them.
 
-use crate::boxes::number;
+use crate::boxes::big_endian;
 use crate::dice::Dice;
 
 /// Numbers at which something begins or ends, as four bytes.
@@ -31,7 +31,7 @@ fn once(dice: &mut Dice, file: &mut Vec<u8>) {
         3 => file[at] = file[at].wrapping_sub(1),
         4 => {
             let value = dice.pick(&NOTABLE);
-            put(file, at, &number(value, 4));
+            put(file, at, &big_endian(value, 4));
         }
         5 => file.truncate(at),
         6 => drop(file.drain(from..to)),

@@ -53,6 +53,12 @@ impl Dice {
         from[self.index(from.len())]
     }
 
+    pub fn shuffle<T>(&mut self, row: &mut [T]) {
+        for k in 1..row.len() {
+            row.swap(k, self.index(k + 1));
+        }
+    }
+
     pub fn bytes(&mut self, n: usize) -> Vec<u8> {
         (0..n).map(|_| self.next() as u8).collect()
     }

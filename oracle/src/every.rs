@@ -1,37 +1,63 @@
-//! Images that are tried one and all: H and its neighbours, rows of whole boxes, the shortest images, headers over a small alphabet.
+//! Images that are tried one and all: H and its neighbours, the shortest images, headers over a small alphabet.
 
 use crate::boxes::{plain, sized};
 
-fn ftyp() -> Vec<u8> {
-    plain(b"ftyp", b"mif1\0\0\0\0mif1")
+/// The body of a box of H, in which the body of one box is another.
+fn body(kind: &[u8; 4], changed: &[u8; 4], other: &[u8]) -> Vec<u8> {
+    if kind == changed {
+        return other.to_vec();
+    }
+    let child = |kind| plain(kind, &body(kind, changed, other));
+    match kind {
+        b"ftyp" => b"mif1\0\0\0\0mif1".to_vec(),
+        b"infe" => b"\x02\0\0\0\0\x01\0\0Exif\0".to_vec(),
+        b"iinf" => [b"\0\0\0\0\0\x01".to_vec(), child(b"infe")].concat(),
+        b"iloc" => b"\x01\0\0\0\x44\0\0\x01\0\x01\0\x01\0\0\0\x01\0\0\0\0\0\0\0\0".to_vec(),
+        b"idat" => b"\0\0\0\x01\xaaMM\0*".to_vec(),
+        _ => [vec![0; 4], child(b"iinf"), child(b"iloc"), child(b"idat")].concat(),
+    }
 }
 
-/// The `meta` of H.
-fn meta() -> Vec<u8> {
-    let infe = plain(b"infe", b"\x02\0\0\0\0\x01\0\0Exif\0");
-    let iinf = plain(b"iinf", &[b"\0\0\0\0\0\x01", &infe[..]].concat());
-    let iloc = plain(b"iloc", b"\x01\0\0\0\x44\0\0\x01\0\x01\0\x01\0\0\0\x01\0\0\0\0\0\0\0\0");
-    let idat = plain(b"idat", b"\0\0\0\x01\xaaMM\0*");
-    plain(b"meta", &[&[0; 4], &iinf[..], &iloc, &idat].concat())
+/// File H of document 01, in which the body of one box is another, and the boxes around that as long as they have to be.
+fn with(changed: &[u8; 4], other: &[u8]) -> Vec<u8> {
+    [b"ftyp", b"meta"].map(|kind| plain(kind, &body(kind, changed, other))).concat()
 }
 
-/// File H of document 01.
+/// No box of H has it.
+const NONE: &[u8; 4] = b"none";
+
 pub fn h() -> Vec<u8> {
-    [ftyp(), meta()].concat()
+    with(NONE, &[])
+}
+
+fn ftyp() -> Vec<u8> {
+    plain(b"ftyp", &body(b"ftyp", NONE, &[]))
+}
+
+/// Each box of H with its body cut to every length; those with a version that matters, with the versions 0 to 3.
+fn bodies() -> impl Iterator<Item = Vec<u8>> {
+    [b"ftyp", b"meta", b"iinf", b"infe", b"iloc", b"idat"].into_iter().flat_map(|kind| {
+        let own = body(kind, NONE, &[]);
+        let versions = if matches!(kind, b"iinf" | b"infe" | b"iloc") { 0..4 } else { own[0]..own[0] + 1 };
+        versions.flat_map(move |version| {
+            let changed = [&[version], &own[1..]].concat();
+            (0..=own.len()).map(move |n| with(kind, &changed[..n]))
+        })
+    })
 }
 
 /// H cut at every byte, H itself last.
-pub fn truncations() -> impl Iterator<Item = Vec<u8>> {
+fn truncations() -> impl Iterator<Item = Vec<u8>> {
     let h = h();
     (0..=h.len()).map(move |n| h[..n].to_vec())
 }
 
-/// Every byte of H with a handful of other values: the ends of the range, its neighbours, the top bit turned.
-pub fn single_bytes() -> impl Iterator<Item = Vec<u8>> {
+/// Every byte of H with a handful of other values: the ends of the range, its neighbours, the top bit turned, another case of a letter.
+fn single_bytes() -> impl Iterator<Item = Vec<u8>> {
     let h = h();
     (0..h.len()).flat_map(move |at| {
         let b = h[at];
-        let mut values = vec![0, 1, 2, 0xff, b.wrapping_add(1), b.wrapping_sub(1), b ^ 0x80];
+        let mut values = vec![0, 1, 2, 0xff, b.wrapping_add(1), b.wrapping_sub(1), b ^ 0x80, b ^ 0x20];
         values.sort_unstable();
         values.dedup();
         values.retain(|&value| value != b);
@@ -45,9 +71,10 @@ pub fn single_bytes() -> impl Iterator<Item = Vec<u8>> {
 }
 
 /// Every row of up to three boxes: an `ftyp`, one without a known brand, one that is too small, `free`, `free` up to the end, and the `meta` of H.
-pub fn rows() -> impl Iterator<Item = Vec<u8>> {
+fn rows() -> impl Iterator<Item = Vec<u8>> {
     let unknown = plain(b"ftyp", b"mif1\0\0\0\0heic");
-    let boxes = [ftyp(), unknown, plain(b"ftyp", b"mif1\0\0\0"), plain(b"free", b""), sized(b"free", 0, None, b""), meta()];
+    let meta = plain(b"meta", &body(b"meta", NONE, &[]));
+    let boxes = [ftyp(), unknown, plain(b"ftyp", b"mif1\0\0\0"), plain(b"free", b""), sized(b"free", 0, None, b""), meta];
     let longer = |rows: Vec<Vec<u8>>| -> Vec<Vec<u8>> {
         rows.iter().flat_map(|row| boxes.iter().map(move |next| [&row[..], next].concat())).collect()
     };
@@ -55,6 +82,11 @@ pub fn rows() -> impl Iterator<Item = Vec<u8>> {
     let two = longer(one.clone());
     let three = longer(two.clone());
     [one, two, three].into_iter().flatten()
+}
+
+/// All of these.
+pub fn neighbours() -> impl Iterator<Item = Vec<u8>> {
+    truncations().chain(single_bytes()).chain(bodies()).chain(rows())
 }
 
 /// Every image of up to `most` bytes.

@@ -1,13 +1,13 @@
 //! Files grown from the box grammar: `ftyp`, `meta` with its tables, the data, and other boxes around them.
 
-use crate::boxes::{boxed, cut, number, plain};
+use crate::boxes::{big_endian, boxed, cut, plain};
 use crate::dice::Dice;
 use crate::item::Item;
 use crate::tables::{earlier_iloc, iinf, iloc};
 
 fn ftyp(dice: &mut Dice) -> Vec<u8> {
     let mut body = dice.pick(&[b"mif1", b"heic", b"msf1"]).to_vec();
-    body.extend(number(0, 4));
+    body.extend(big_endian(0, 4));
     let mut brands = vec![*b"heic"; dice.index(3)];
     if !dice.fault("no known brand") {
         brands.insert(dice.index(brands.len() + 1), *dice.pick(&[b"mif1", b"msf1"]));
@@ -44,25 +44,21 @@ fn front(dice: &mut Dice) -> Vec<u8> {
 /// Children whose place is taken by later ones, or that are skipped.
 fn earlier(dice: &mut Dice, id: u64) -> Vec<Vec<u8>> {
     let mut children = Vec::new();
-    if dice.one_in(8) {
+    for _ in 0..dice.pick(&[0, 0, 0, 0, 0, 0, 0, 1, 2]) {
         children.push(earlier_iloc(dice));
     }
-    if dice.one_in(8) {
+    for _ in 0..dice.pick(&[0, 0, 0, 0, 0, 0, 0, 1, 2]) {
         let length = dice.index(9);
         children.push(plain(b"idat", &dice.bytes(length)));
     }
-    if dice.one_in(10) {
+    for _ in 0..dice.pick(&[0, 0, 0, 0, 0, 0, 0, 0, 1, 2]) {
         children.push(iinf(dice, id ^ 1));
-    }
-    for _ in 0..dice.index(3) {
-        let child = filler(dice, "other child");
-        children.push(child);
     }
     children
 }
 
-/// The item's data starts at `start` of the image; in `idat` it starts at 0.
-fn meta(dice: &mut Dice, item: &Item, start: u64) -> Vec<u8> {
+/// The children that count, in any order.
+fn counting(dice: &mut Dice, item: &Item, start: u64) -> Vec<Vec<u8>> {
     let mut children = Vec::new();
     if !dice.fault("no iinf") {
         children.push(iinf(dice, item.id));
@@ -73,12 +69,21 @@ fn meta(dice: &mut Dice, item: &Item, start: u64) -> Vec<u8> {
     if item.method == 1 && !dice.fault("no idat") {
         children.push(boxed(dice, "idat size", b"idat", &item.data));
     }
-    let turned = dice.index(children.len());
-    children.rotate_left(turned);
-    let earlier = earlier(dice, item.id);
-    let at = if dice.fault("earlier ones last") { children.len() } else { 0 };
-    children.splice(at..at, earlier);
-    let mut body = number(dice.choose("meta version", &[0], &[1, 2, 255]) << 24, 4);
+    dice.shuffle(&mut children);
+    children
+}
+
+/// The item's data starts at `start` of the image; in `idat` it starts at 0.
+fn meta(dice: &mut Dice, item: &Item, start: u64) -> Vec<u8> {
+    let counting = counting(dice, item, start);
+    let mut earlier = earlier(dice, item.id);
+    dice.shuffle(&mut earlier);
+    let mut children = if dice.fault("earlier ones last") { [counting, earlier] } else { [earlier, counting] }.concat();
+    for _ in 0..dice.index(3) {
+        let child = filler(dice, "other child");
+        children.insert(dice.index(children.len() + 1), child);
+    }
+    let mut body = big_endian(dice.choose("meta version", &[0], &[1, 2, 255]) << 24, 4);
     body.extend(children.concat());
     let body = cut(dice, "meta cut", body);
     boxed(dice, "meta size", b"meta", &body)
@@ -109,7 +114,7 @@ fn whole(dice: &mut Dice) -> Vec<u8> {
 pub fn file(dice: &mut Dice) -> Vec<u8> {
     dice.start();
     let mut file = whole(dice);
-    if dice.one_in(10) && !file.is_empty() {
+    if dice.one_in(10) {
         file.extend(filler(dice, "box behind"));
     }
     if dice.fault("file cut") {

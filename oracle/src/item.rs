@@ -1,6 +1,6 @@
 //! The Exif item: its bytes, and the extents that join them.
 
-use crate::boxes::number;
+use crate::boxes::big_endian;
 use crate::dice::Dice;
 
 /// Where an extent begins in the item's data, and its length; 0 is up to the end.
@@ -18,21 +18,9 @@ pub struct Item {
     pub extents: Vec<Extent>,
 }
 
-/// How long the data is and how often it is taken, around a total of 65,535.
-const LARGE: [(usize, usize); 12] = [
-    (255, 257),
-    (256, 256),
-    (257, 255),
-    (1, 65_535),
-    (2, 32_768),
-    (2, 32_767),
-    (3, 21_845),
-    (4_369, 15),
-    (16_384, 4),
-    (65_534, 1),
-    (65_535, 1),
-    (65_536, 1),
-];
+/// How long the data is and how often it is taken, around a total of 65,535: short data many times, and long data a few times.
+const MANY: [(usize, usize); 7] = [(255, 257), (256, 256), (257, 255), (1, 65_535), (2, 32_768), (2, 32_767), (3, 21_845)];
+const FEW: [(usize, usize); 5] = [(4_369, 15), (16_384, 4), (65_534, 1), (65_535, 1), (65_536, 1)];
 
 impl Item {
     pub fn grow(dice: &mut Dice) -> Item {
@@ -57,7 +45,7 @@ fn joined(dice: &mut Dice, total: usize) -> Vec<u8> {
         103 => 0x8000_0000,
         small => small,
     };
-    let mut bytes = number(offset, 4);
+    let mut bytes = big_endian(offset, 4);
     bytes.extend(dice.bytes(total.saturating_sub(4)));
     bytes.truncate(total);
     bytes
@@ -101,7 +89,7 @@ fn to_the_end(dice: &mut Dice) -> (Vec<u8>, Vec<Extent>) {
 /// All of the data up to its end, several times.
 fn repeated(dice: &mut Dice) -> (Vec<u8>, Vec<Extent>) {
     let (size, times) = match dice.below(8) {
-        0 => dice.pick(&LARGE[..7]),
+        0 => dice.pick(&MANY),
         _ => dice.pick(&[(1, 4), (1, 3), (2, 2), (3, 2), (4, 1), (5, 0), (8, 3), (12, 2)]),
     };
     dice.choices.push(("repeated", (size * times) as u64));
@@ -110,7 +98,7 @@ fn repeated(dice: &mut Dice) -> (Vec<u8>, Vec<Extent>) {
 
 /// A total around 65,535, by few extents.
 fn large(dice: &mut Dice) -> (Vec<u8>, Vec<Extent>) {
-    let (size, times) = dice.pick(&LARGE[7..]);
+    let (size, times) = dice.pick(&FEW);
     dice.choices.push(("repeated", (size * times) as u64));
     let mut extents = vec![Extent { at: 0, length: size as u64 }; times];
     if dice.one_in(2) {

@@ -32,9 +32,13 @@ pub fn get_exif_attr(image: &[u8]) -> Result<Vec<u8>, Error> {
     isobmff::get_exif_attr(&mut std::io::Cursor::new(image))
 }
 
-/// The block, or document 01's number.
+/// The block, or document 01's number. Where the Rust stops without an answer, or with one that has no number, the image is shown.
 pub fn answer(image: &[u8]) -> Result<Vec<u8>, u32> {
-    get_exif_attr(image).map_err(|error| numbers::number(&error))
+    let answered = std::panic::catch_unwind(|| get_exif_attr(image).map_err(|error| numbers::number(&error)));
+    answered.unwrap_or_else(|_| {
+        println!("oracle: that was at the image {}", case::hex(image));
+        std::process::exit(1)
+    })
 }
 
 pub fn is_heif(image: &[u8]) -> bool {

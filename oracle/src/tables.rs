@@ -1,6 +1,6 @@
 //! `iinf` and `iloc`: the tables that lead to the item, with a fault possible at every field.
 
-use crate::boxes::{boxed, cut, number, plain};
+use crate::boxes::{big_endian, boxed, cut, plain};
 use crate::dice::Dice;
 use crate::item::{Extent, Item};
 
@@ -23,7 +23,7 @@ fn count(dice: &mut Dice, field: &'static str, right: usize, size: usize) -> Vec
         4 => u64::MAX,
         _ => right,
     };
-    number(count, size)
+    big_endian(count, size)
 }
 
 fn other_id(dice: &mut Dice, id: u64) -> u64 {
@@ -41,9 +41,9 @@ fn other_id(dice: &mut Dice, id: u64) -> u64 {
 fn infe(dice: &mut Dice, id: u64, kind: &[u8; 4]) -> Vec<u8> {
     let usual: &[u64] = if id > 0xffff { &[3] } else { &[2, 2, 3] };
     let (version, mut body) = version(dice, "infe version", usual, &[0, 1, 2, 3, 4, 255]);
-    body.extend(number(id, if version == 3 { 4 } else { 2 }));
+    body.extend(big_endian(id, if version == 3 { 4 } else { 2 }));
     let protection = dice.pick(&[0, 0, 0, 1]);
-    body.extend(number(protection, 2));
+    body.extend(big_endian(protection, 2));
     body.extend(kind);
     body.extend(&b"name\0"[dice.index(6)..]);
     let body = cut(dice, "infe cut", body);
@@ -104,7 +104,7 @@ impl Shape {
         }
         let ends = item.extents.iter().all(|x| x.length == 0);
         let starts = item.extents.iter().all(|x| x.at == item.extents[0].at);
-        let lengths: &[u64] = if ends { &[0, 0, 4, 8] } else { &[4, 8] };
+        let lengths: &[u64] = if ends { &[0, 0, 4, 8] } else { &[4, 8, 8] };
         let offsets: &[u64] = if starts { &[0, 4, 8] } else { &[4, 8] };
         let offset = dice.choose("offset size", offsets, &SIZE_FAULTS);
         let bases: &[u64] = if offset == 0 { &[4, 8] } else { &[0, 4, 8] };
@@ -129,18 +129,18 @@ impl Shape {
 
 /// The half-byte of the method stands behind twelve bits that nobody reads.
 fn front(dice: &mut Dice, shape: &Shape, id: u64, method: u64, data_reference: u64) -> Vec<u8> {
-    let mut bytes = number(id, if shape.version == 2 { 4 } else { 2 });
+    let mut bytes = big_endian(id, if shape.version == 2 { 4 } else { 2 });
     if shape.version != 0 {
         let reserved = dice.pick(&[0, 0, 0, 0xfff0, 0x10]);
-        bytes.extend(number(reserved | method, 2));
+        bytes.extend(big_endian(reserved | method, 2));
     }
-    bytes.extend(number(data_reference, 2));
+    bytes.extend(big_endian(data_reference, 2));
     bytes
 }
 
-/// A place beside the right one.
+/// A number beside the right one. The largest comes often: only in eight bytes does it pass the end of 64 bits, which 18 and 19 are for.
 fn beside(dice: &mut Dice, field: &'static str, right: u64) -> u64 {
-    match dice.choose(field, &[0], &[1, 2, 3, 3, 3, 4, 5, 6, 6, 7]) {
+    match dice.choose(field, &[0], &[1, 2, 3, 3, 3, 3, 3, 3, 3, 4, 5, 6, 6, 7]) {
         1 => right.wrapping_add(1),
         2 => right.wrapping_sub(1),
         3 => u64::MAX,
@@ -162,11 +162,21 @@ fn extents(dice: &mut Dice, shape: &Shape, extents: &[Extent], start: u64, base:
     for x in extents {
         bytes.extend(dice.bytes(shape.index_size()));
         let at = beside(dice, "extent offset", (start + x.at).wrapping_sub(base));
-        bytes.extend(number(at, shape.offset));
+        bytes.extend(big_endian(at, shape.offset));
         let length = beside(dice, "extent length", x.length);
-        bytes.extend(number(length, shape.length));
+        bytes.extend(big_endian(length, shape.length));
     }
     bytes
+}
+
+/// A base from which the extents' offsets can say the rest. Without offsets it says all.
+fn base_offset(dice: &mut Dice, shape: &Shape, item: &Item, start: u64) -> u64 {
+    if shape.base == 0 {
+        return 0;
+    }
+    let first = start + item.extents.first().map_or(0, |x| x.at);
+    let base = if shape.offset == 0 { first } else { dice.pick(&[0, start, start / 2]) };
+    beside(dice, "base offset", base)
 }
 
 /// The item's entry. Its data starts at `start` of the image, or of `idat`.
@@ -174,14 +184,8 @@ fn entry(dice: &mut Dice, shape: &Shape, item: &Item, start: u64) -> Vec<u8> {
     let method = dice.choose("method", &[item.method], &[0, 1, 2, 2, 2, 2, 3, 4, 8, 15]);
     let data_reference = dice.choose("data reference", &[0], &[1, 0xffff]);
     let mut bytes = front(dice, shape, item.id, method, data_reference);
-    let first = start + item.extents.first().map_or(0, |x| x.at);
-    let base = match shape.base {
-        0 => 0,
-        _ if shape.offset == 0 => first,
-        _ => dice.pick(&[0, start, start / 2]),
-    };
-    let base = if shape.base == 0 { 0 } else { beside(dice, "base offset", base) };
-    bytes.extend(number(base, shape.base));
+    let base = base_offset(dice, shape, item, start);
+    bytes.extend(big_endian(base, shape.base));
     bytes.extend(count(dice, "extent count", item.extents.len(), 2));
     bytes.extend(extents(dice, shape, &item.extents, start, base));
     bytes
@@ -190,10 +194,8 @@ fn entry(dice: &mut Dice, shape: &Shape, item: &Item, start: u64) -> Vec<u8> {
 /// An entry of another id, or an earlier one of the item, with anything in its fields.
 fn other(dice: &mut Dice, shape: &Shape, id: u64) -> Vec<u8> {
     let method = dice.choose("other's method", &[0, 1], &[2, 3, 15]);
-    let data_reference = match method * shape.version {
-        0 => dice.choose("other's data reference", &[0], &[1]),
-        _ => dice.pick(&[0, 1, 0xffff]),
-    };
+    let data_reference =
+        if method == 0 || shape.version == 0 { dice.choose("other's data reference", &[0], &[1]) } else { dice.pick(&[0, 1, 0xffff]) };
     let mut bytes = front(dice, shape, id, method, data_reference);
     bytes.extend(dice.bytes(shape.base));
     let extents = dice.index(3);
@@ -227,7 +229,7 @@ pub fn iloc(dice: &mut Dice, item: &Item, start: u64) -> Vec<u8> {
     let (version, mut body) = version(dice, "iloc version", usual, &[0, 1, 2, 3, 255]);
     let shape = Shape::of(dice, item, version);
     let sizes = (shape.offset << 12 | shape.length << 8 | shape.base << 4 | shape.index) as u64;
-    body.extend(number(sizes, 2));
+    body.extend(big_endian(sizes, 2));
     let entries = locations(dice, &shape, item, start);
     body.extend(count(dice, "iloc count", entries.len(), if version == 2 { 4 } else { 2 }));
     body.extend(entries.concat());

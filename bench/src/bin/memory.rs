@@ -100,7 +100,8 @@ fn line(row: &Row) -> Vec<String> {
 }
 
 fn main() {
-    let head = ["image", "stack, Rust", "stack, ours", "heap, Rust", "allocations, Rust", "stack of `is_heif`, Rust", "stack of `is_heif`, ours"];
+    let head =
+        ["image", "stack, Rust", "stack, ours", "heap, Rust", "allocations, Rust", "stack of `is_heif`, Rust", "stack of `is_heif`, ours"];
     let mut table = Table::new("Extraction, and the stack of `is_heif`", head.map(str::to_string).to_vec());
     rows::extraction().iter().for_each(|row| table.add(line(row)));
     let own = memory(&mut || sides::empty(black_box(&[]), black_box(&mut []))).stack;

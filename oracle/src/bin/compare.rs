@@ -3,18 +3,21 @@
 //!     compare CASES SEED SHORTEST COMMAND...
 //!
 //! CASES is how many grown and damaged files there are, after the cases that are always tried; SEED is a number, or `fresh` for one by the
-//! clock; SHORTEST is 1, 2 or 3: every image of up to so many bytes is among those always tried.
+//! clock; every image of up to SHORTEST bytes is among those always tried. Exit status 0, or 1 with what went wrong.
 
 use std::process::exit;
 use std::time::{Instant, SystemTime, UNIX_EPOCH};
 
 use oracle::case::{hex, Case};
 use oracle::cases::{always, Seeded};
-use oracle::program::{Counts, Disagreement, Program};
+use oracle::program::{alone, compare, Counts, Disagreement};
 use oracle::shrink::shrink;
 
 /// Each answer that an image can get, at least so often, in a run of 100,000 or more.
 const FLOOR: u64 = 100;
+
+/// So many questions at most for a smaller case: each is a run of the program.
+const QUESTIONS: usize = 5_000;
 
 fn fresh() -> u64 {
     SystemTime::now().duration_since(UNIX_EPOCH).unwrap().as_nanos() as u64
@@ -26,26 +29,24 @@ fn show(case: &Case, expected: &str, got: &str) {
     println!("  program {got}");
 }
 
-/// A program that ended is started again for each question: it may end at one case and not at another.
+/// Shows the case, and a smaller one, each given to the program alone.
 fn report(first: Disagreement, command: &[String]) -> ! {
     println!("compare: a disagreement");
     show(&first.case, &first.expected, &first.got);
-    let mut program = Program::start(command);
-    let mut got = |case: &Case| {
-        let line = program.ask(case);
-        if line.is_empty() {
-            program = Program::start(command);
+    let differs = |case: &Case| alone(command, case) != case.expected().line;
+    match [Some(first.case), first.before].into_iter().flatten().find(differs) {
+        None => println!("compare: given alone, neither this case nor the one before it differs"),
+        Some(case) => {
+            let small = shrink(case, QUESTIONS, differs);
+            println!("compare: shrunken");
+            show(&small, &small.expected().line, &alone(command, &small));
         }
-        line
-    };
-    let small = shrink(first.case, 20_000, |case| got(case) != case.expected().line);
-    println!("compare: shrunken");
-    show(&small, &small.expected().line, &got(&small));
+    }
     exit(1)
 }
 
 /// Fails where an answer that can be given was not, or not often enough to say much.
-fn judge(counts: &Counts, cases: u64) {
+fn judge(counts: &Counts, cases: usize) {
     let floor = if cases < 100_000 { 1 } else { FLOOR };
     let mut missing = Vec::new();
     for number in (0..=26).chain([28]) {
@@ -65,20 +66,16 @@ fn main() {
     let [cases, seed, shortest, command @ ..] = &words[..] else { panic!("compare CASES SEED SHORTEST COMMAND...") };
     let cases: usize = cases.parse().expect("a number of cases");
     let seed = if seed == "fresh" { fresh() } else { seed.parse().expect("a seed is a number, or fresh") };
-    let shortest = shortest.parse().expect("1, 2 or 3");
+    let shortest = shortest.parse().expect("a number of bytes");
     println!("compare: seed {seed}");
     let began = Instant::now();
-    let all = always(shortest).chain(Seeded::new(seed).take(cases));
-    match Program::start(command).compare(all) {
+    match compare(command, always(shortest).chain(Seeded::new(seed).take(cases))) {
         Err(first) => report(*first, command),
         Ok(counts) => {
-            judge(&counts, cases as u64);
-            let total: u64 = counts.iter().sum();
-            let always = total - cases as u64;
-            println!(
-                "compare: {cases} cases of the seed and {always} that are always tried, no disagreement, {:.0} s",
-                began.elapsed().as_secs_f64()
-            );
+            judge(&counts, cases);
+            let others = counts.iter().sum::<u64>() - cases as u64;
+            let seconds = began.elapsed().as_secs();
+            println!("compare: {cases} cases of the seed and {others} that are always tried, no disagreement, {seconds} s");
         }
     }
 }

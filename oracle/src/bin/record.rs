@@ -4,8 +4,8 @@
 //!     record make          writes the list to standard output
 //!     record check FILE    says whether the lines of a list are the Rust's
 //!
-//! Chosen are H cut at every byte, every byte of H changed, rows of boxes, and of a million cases of a fixed seed short ones with one fault or
-//! none, so many that each choice of the generator, a field with a value or a fault, is met with each answer that it was met with at all.
+//! Chosen are H and its neighbours, and of a million cases of a fixed seed short ones with one fault or none, so many that each choice of the
+//! generator, a field with a value or a fault, is met with each answer that it was met with at all.
 
 use std::collections::BTreeMap;
 
@@ -22,7 +22,7 @@ const MOST_IMAGE: usize = 240;
 const MOST_OUT: usize = 24;
 
 fn near_h() -> impl Iterator<Item = Case> {
-    every::truncations().chain(every::single_bytes()).chain(every::rows()).map(|image| Case { image, out: 6 })
+    every::neighbours().map(|image| Case { image, out: 6 })
 }
 
 /// A choice of the generator, and the answer that a case with it got.
@@ -88,11 +88,14 @@ fn read(line: &str) -> Option<Case> {
 
 fn check(file: &str) {
     let list = std::fs::read_to_string(file).unwrap_or_else(|error| panic!("{file}: {error}"));
+    let mut met = [false; 30];
     for (k, line) in list.lines().enumerate() {
         let case = read(line).unwrap_or_else(|| panic!("{file}: line {} is no case", k + 1));
         assert!(line == written(&case), "{file}: line {} should be {}", k + 1, written(&case));
+        met[case.expected().number as usize] = true;
     }
-    assert!(!list.is_empty(), "{file} has no case");
+    let missing: Vec<usize> = (0..=26).chain([28]).filter(|&number| !met[number]).collect();
+    assert!(missing.is_empty(), "{file} has none of the answers {missing:?}");
     println!("record: {} cases, all with the Rust's own lines", list.lines().count());
 }
 

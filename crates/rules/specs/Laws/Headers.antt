@@ -1,6 +1,6 @@
 -- Where a box lies: a header that is there whole, the box that it announces, a box of either level.
 use mathlib.Core.Path.{_≡_, refl, ap, subst, _∙_}
-use Prim.Native.Nat.{ℕ, _+_, _-_, _^_, _≤_, _<_}
+use Prim.Native.Nat.{ℕ, _+_, _^_, _≤_, _<_}
 use native.Mathlib.Omega.{arith}
 use mathlib.Core.Bool.{Bool, true, false, _||_}
 use mathlib.Core.Option.{Option, none, some}
@@ -65,7 +65,7 @@ header-in n at x y z = go (ltb n (at + 8)) (eqb x 1) (ltb n (at + 16)) refl refl
 -- ---- Where a box lies
 
 -- the box that a header announces begins in the bytes
-pub begins : (cut : ℕ) (s : List ℕ) (at : ℕ) {b : Box} → fine b ≡ announced cut s at → Begins (length s) at b
+begins : (cut : ℕ) (s : List ℕ) (at : ℕ) {b : Box} → fine b ≡ announced cut s at → Begins (length s) at b
 unfolding announced headerAt boxWith
 begins cut s at e = go (headerAt s at) (header-in (length s) at (numberAt s at 4) (numberAt s (at + 4) 4) (numberAt s (at + 8) 8)) e
   where

@@ -1,4 +1,4 @@
--- Each return is one case of the decision over the size, and its law in Laws/Decision.
+-- Each return is one case of the decision over the size, and its law in Laws/Decision; at the last, the arms of the sizes 0, 1 and from 8 on have met.
 use native.Mathlib.Omega.{arith}
 use mathlib.Core.Logic.{⊎-elim}
 use Rattle.rules.specs.Laws.Decision as by

@@ -33,7 +33,9 @@ fn measure_row(row: &Row, meter: &mut impl Meter) -> Pair {
             || drop(black_box(sides::rust_exif(black_box(image)))),
             || _ = black_box(sides::our_exif(black_box(image), black_box(&mut out))),
         ),
-        Call::Heif => meter.measure(|| _ = black_box(sides::rust_is_heif(black_box(image))), || _ = black_box(sides::our_is_heif(black_box(image)))),
+        Call::Heif => {
+            meter.measure(|| _ = black_box(sides::rust_is_heif(black_box(image))), || _ = black_box(sides::our_is_heif(black_box(image))))
+        }
         Call::Empty => meter.measure(|| sides::empty(black_box(image), &mut []), || sides::empty(black_box(image), &mut [])),
     }
 }
