@@ -8,14 +8,13 @@ use lib.ListN.{length}
 use borrow.Author.Tests.{le-leb, lt-leb, eq-eqb, ne-eqb}
 use Rattle.rules.specs.Doc.Outcomes.{if_then_else_, Outcome, fine, refused, _>>=_, require, isFine}
 use Rattle.rules.specs.Doc.Lists.{any}
-use Rattle.rules.specs.Doc.Bytes.{numberAt, part, sizeOf, bytesIn}
+use Rattle.rules.specs.Doc.Bytes.{numberAt, part, bytesIn}
 use Rattle.rules.specs.Doc.Headers.{ftyp, Box, is, childAt}
 use Rattle.rules.specs.Doc.Levels.{tested}
 use Rattle.rules.specs.Doc.Ftyp.{known, brandsFrom, brandTest}
 use Rattle.rules.specs.Doc.Heif.{heifLevel, isHeif}
-use Rattle.rules.specs.Laws.Numbers.{bytes-in}
-use Rattle.rules.specs.Laws.Headers.{child-inside}
 use Rattle.rules.specs.Laws.Fold.{stopFrom, stop-next, stop-done}
+use Rattle.boxes.specs.Loops.{WholeBox}
 
 -- ---- Brands
 
@@ -103,18 +102,18 @@ module _ (s : List ℕ) (at : ℕ) (inv : heifFrom s at ≡ isHeif s) where
     unfolding heifOf
     heif-refused e = rw (heif-next s at k, ← e) at inv
 
-    module _ {b : Box} (e : fine b ≡ childAt s at) where
-      pub heif-other : (b .kind ≡ ftyp → ⊥) → heifFrom s (b .body .to) ≡ isHeif s
+    module _ {kind from to : ℕ} (b : WholeBox s at kind from to) where
+      pub heif-other : (kind ≡ ftyp → ⊥) → heifFrom s to ≡ isHeif s
       unfolding heifOf
-      heif-other o = rw (heif-next s at k, ← e, ne-eqb (b .kind) ftyp o) at inv
+      heif-other o = rw (heif-next s at k, ← b .is, ne-eqb kind ftyp o) at inv
 
-      module _ (f : b .kind ≡ ftyp) where
+      module _ (f : kind ≡ ftyp) where
         abbrev body : List ℕ
-        body = part s (b .body .from) (sizeOf (b .body))
+        body = part s from (to - from)
 
         heif-ftyp : isFine (brandTest body) ≡ isHeif s
         unfolding heifOf
-        heif-ftyp = rw (heif-next s at k, ← e, eq-eqb (b .kind) ftyp f, bytes-in s (b .body) (child-inside s at e .inner)) at inv
+        heif-ftyp = rw (heif-next s at k, ← b .is, eq-eqb kind ftyp f, b .bytes) at inv
 
         pub heif-small : length body < 8 → false ≡ isHeif s
         unfolding isFine

@@ -3,12 +3,12 @@ use mathlib.Core.Path.{_≡_, refl, sym, _∙_}
 use mathlib.Core.Bool.{Bool, true, false}
 use mathlib.Core.Option.{Option, none, some, Option·map}
 use mathlib.Core.List.{List, [], _∷_}
-use Prim.Native.Nat.{ℕ, _≤_, _<_}
+use Prim.Native.Nat.{ℕ, _-_, _≤_, _<_}
 use lib.ListN.{length}
 use borrow.Author.Tests.{ne-eqb}
 use Rattle.rules.specs.Doc.Outcomes.{if_then_else_, Outcome, fine, refused, _>>=_, given}
 use Rattle.rules.specs.Doc.Lists.{only, lastOf}
-use Rattle.rules.specs.Doc.Bytes.{part, Span, sizeOf, bytesIn, version}
+use Rattle.rules.specs.Doc.Bytes.{part, Span, bytesIn, version}
 use Rattle.rules.specs.Doc.Walks.{Walk, outcome}
 use Rattle.rules.specs.Doc.Headers.{iinf, iloc, idat, Box, isKind, is, childAt}
 use Rattle.rules.specs.Doc.Levels.{tested, boxes, inside}
@@ -16,10 +16,9 @@ use Rattle.rules.specs.Doc.Meta.{metaTest}
 use Rattle.rules.specs.Doc.Children.{metaLevel, children, bodyIn, lastBody, allItems, wantedItem, Kept, keptIn, kept}
 use Rattle.rules.specs.Doc.Iinf.{Item, isExif, infoTest, items}
 use Rattle.rules.specs.Laws.Rows.{bind-assoc}
-use Rattle.rules.specs.Laws.Numbers.{bytes-in}
-use Rattle.rules.specs.Laws.Headers.{child-inside}
 use Rattle.rules.specs.Laws.Fold.{folded, leaves, readNext, children-next, children-done}
 use Rattle.rules.specs.Laws.Last.{keep, kept-last, feed, feed-each}
+use Rattle.boxes.specs.Loops.{WholeBox}
 use Rattle.items.specs.Wanted.{iinfOver, wants, iinf-folded}
 use Rattle.isobmff.specs.Told.{State}
 
@@ -89,25 +88,27 @@ module _ (body : List ℕ) (at : ℕ) (st : State) {r : Outcome State} (inv : ch
     child-cut e = rw (← e) at next
 
     -- by the type
-    module _ {b : Box} (e : fine b ≡ childAt body at) where
-      pub child-iinf : {o : Outcome (Option ℕ)} → b .kind ≡ iinf → o ≡ iinfOver (part body (b .body .from) (sizeOf (b .body))) (st .wanted)
-          → (o >>= λ w. childrenFrom body (b .body .to) (record { wanted = w; iloc = st .iloc; idat = st .idat })) ≡ r
+    module _ {kind from to : ℕ} (b : WholeBox body at kind from to) where
+      pub child-iinf : {o : Outcome (Option ℕ)} → kind ≡ iinf → o ≡ iinfOver (part body from (to - from)) (st .wanted)
+          → (o >>= λ w. childrenFrom body to (record { wanted = w; iloc = st .iloc; idat = st .idat })) ≡ r
       unfolding keep
       child-iinf {o} k f =
-          sym (bind-assoc o (λ w. fine (record { wanted = w; iloc = st .iloc; idat = st .idat })) (childrenFrom body (b .body .to)))
-          ∙ rw (← e, k, bytes-in body (b .body) (child-inside body at e .inner), ← f) at next
+          sym (bind-assoc o (λ w. fine (record { wanted = w; iloc = st .iloc; idat = st .idat })) (childrenFrom body to))
+          ∙ rw (← b .is, k, b .bytes, ← f) at next
 
-      pub child-iloc : b .kind ≡ iloc → childrenFrom body (b .body .to) (record { wanted = st .wanted; iloc = some (b .body); idat = st .idat }) ≡ r
+      pub child-iloc : kind ≡ iloc
+          → childrenFrom body to (record { wanted = st .wanted; iloc = some (record { from = from; to = to }); idat = st .idat }) ≡ r
       unfolding keep
-      child-iloc k = rw (← e, k) at next
+      child-iloc k = rw (← b .is, k) at next
 
-      pub child-idat : b .kind ≡ idat → childrenFrom body (b .body .to) (record { wanted = st .wanted; iloc = st .iloc; idat = some (b .body) }) ≡ r
+      pub child-idat : kind ≡ idat
+          → childrenFrom body to (record { wanted = st .wanted; iloc = st .iloc; idat = some (record { from = from; to = to }) }) ≡ r
       unfolding keep
-      child-idat k = rw (← e, k) at next
+      child-idat k = rw (← b .is, k) at next
 
-      pub child-other : (b .kind ≡ iinf → ⊥) → (b .kind ≡ iloc → ⊥) → (b .kind ≡ idat → ⊥) → childrenFrom body (b .body .to) st ≡ r
+      pub child-other : (kind ≡ iinf → ⊥) → (kind ≡ iloc → ⊥) → (kind ≡ idat → ⊥) → childrenFrom body to st ≡ r
       unfolding keep
-      child-other p q o = rw (← e, ne-eqb (b .kind) iinf p, ne-eqb (b .kind) iloc q, ne-eqb (b .kind) idat o) at next
+      child-other p q o = rw (← b .is, ne-eqb kind iinf p, ne-eqb kind iloc q, ne-eqb kind idat o) at next
 
 pub children-start : (body : List ℕ) → childrenFrom body 4 nothing ≡ childrenOver body
 unfolding childrenFrom childrenOver children

@@ -8,18 +8,17 @@ use native.Mathlib.Omega.{arith}
 use borrow.Author.Tests.{eq-eqb, ne-eqb}
 use Rattle.rules.specs.Doc.Outcomes.{if_then_else_, Outcome, fine, refused, _>>=_, once}
 use Rattle.rules.specs.Doc.Lists.{only, lastOf, each}
-use Rattle.rules.specs.Doc.Bytes.{part, sizeOf, bytesIn, field, version}
+use Rattle.rules.specs.Doc.Bytes.{part, bytesIn, field, version}
 use Rattle.rules.specs.Doc.Walks.{outcome}
 use Rattle.rules.specs.Doc.Headers.{infe, Exif, Box, isKind, is, childAt}
 use Rattle.rules.specs.Doc.Levels.{tested, countedBoxes, inside}
 use Rattle.rules.specs.Doc.Iinf.{Item, itemIdSize, item, itemTest, isExif, itemIn, items}
 use Rattle.rules.specs.Doc.Iinf.{Count, countSize, infoCount, infoLevel, infos, infoTest, infoBoxes}
 use Rattle.rules.specs.Laws.Rows.{bind-assoc}
-use Rattle.rules.specs.Laws.Numbers.{bytes-in}
-use Rattle.rules.specs.Laws.Headers.{child-inside}
 use Rattle.rules.specs.Laws.Fold.{folded, leaves, readNext, counted-children-next, counted-children-done}
 use Rattle.rules.specs.Laws.Last.{orElse, keep, keep-last, feed, feed-each}
 use Rattle.boxes.specs.Told.{number, fieldOf}
+use Rattle.boxes.specs.Loops.{WholeBox}
 use Rattle.boxes.specs.declared.refusal.Refusal.{Refusal}
 use Rattle.boxes.specs.declared.field.Number.{Number}
 use Rattle.boxes.specs.declared.field.Number.the-variants.{Got, Refused}
@@ -213,12 +212,12 @@ module _ (body : List ℕ) (n i at : ℕ) (w : Option ℕ) {r : Outcome (Option 
     pub entries-cut : {m : ℕ} → refused m ≡ childAt body at → refused m ≡ r
     entries-cut e = rw (← e) at entries-next
 
-    module _ {b : Box} (e : fine b ≡ childAt body at) where
-      pub entries-read : {o : Outcome (Option ℕ)} → b .kind ≡ infe → o ≡ infeOver (part body (b .body .from) (sizeOf (b .body))) none
-          → (o >>= λ x. entriesOver body (n - (i + 1)) (b .body .to) (orElse x w)) ≡ r
+    module _ {kind from to : ℕ} (b : WholeBox body at kind from to) where
+      pub entries-read : {o : Outcome (Option ℕ)} → kind ≡ infe → o ≡ infeOver (part body from (to - from)) none
+          → (o >>= λ x. entriesOver body (n - (i + 1)) to (orElse x w)) ≡ r
       entries-read {o} k f =
-          sym (bind-assoc o (λ x. fine (orElse x w)) (entriesOver body (n - (i + 1)) (b .body .to)))
-          ∙ rw (← e, eq-eqb (b .kind) infe k, bytes-in body (b .body) (child-inside body at e .inner), infe-alone _ w, ← f) at entries-next
+          sym (bind-assoc o (λ x. fine (orElse x w)) (entriesOver body (n - (i + 1)) to))
+          ∙ rw (← b .is, eq-eqb kind infe k, b .bytes, infe-alone _ w, ← f) at entries-next
 
-      pub entries-other : (b .kind ≡ infe → ⊥) → entriesOver body (n - (i + 1)) (b .body .to) w ≡ r
-      entries-other k = rw (← e, ne-eqb (b .kind) infe k) at entries-next
+      pub entries-other : (kind ≡ infe → ⊥) → entriesOver body (n - (i + 1)) to w ≡ r
+      entries-other k = rw (← b .is, ne-eqb kind infe k) at entries-next

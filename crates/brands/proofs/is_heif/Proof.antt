@@ -4,7 +4,7 @@ use Prim.Native.Nat.{_≤_, _-_}
 use native.Mathlib.Omega.{arith}
 use lib.ListN.{length}
 use Rattle.rules.specs.Doc.Heif.{isHeif}
-use Rattle.rules.specs.Laws.Headers.{child-at, child-inside}
+use Rattle.boxes.specs.Loops.{WholeBox, box-refused, box-whole}
 use Rattle.brands.specs.Brands.{knownFrom, brand-none, brand-known, brand-other, heifFrom, heif-start, heif-done, heif-refused, heif-other, heif-small, heif-brands}
 use borrow.Author.Needs.{needs}
 use Rattle.brands.proofs.is_heif.Statement.{statement}
@@ -37,28 +37,26 @@ enum-told c = search needs
 enum-known-kind : tie.Need-enum-known-kind Inv-loop μ-loop Inv-boxes μ-boxes
 enum-known-kind c = search needs
 
+-- the box of this turn, once it is known to be whole
+box : (c : tie.After-kind Inv-loop μ-loop Inv-boxes μ-boxes)
+    → let turn = c .before .before .before .before .before in
+    let b = c .kind .given .0 in
+    WholeBox (turn .before .before .args .buf .now) (turn .boxes .at) (b .0) (b .1 .0) (b .1 .1 .0)
+box c =
+    let tried = c .before .before in
+    box-whole _ _ (tried .before .read .ensures 3) (tried .child-box .ensures _) (c .kind .given .1)
+
 sub-body : tie.Need-sub-body Inv-loop μ-loop Inv-boxes μ-boxes
-sub-body c =
-    let box = c .before .before .before .before in
-    child-inside _ _ (rw (c .before .before .kind .given .1) at (child-at _ _ (box .before .read .ensures 3) (box .child-box .ensures _))) .order
+sub-body c = box (c .before .before) .order
 
 part-body-start : tie.Need-part-body-start Inv-loop μ-loop Inv-boxes μ-boxes
-part-body-start c =
-    let box = c .before .before .before .before in
-    let i = child-inside _ _ (rw (c .before .before .kind .given .1) at (child-at _ _ (box .before .read .ensures 3) (box .child-box .ensures _))) in
-    omega arith
+part-body-start c = box (c .before .before) .order
 
 part-body-end : tie.Need-part-body-end Inv-loop μ-loop Inv-boxes μ-boxes
-part-body-end c =
-    let box = c .before .before .before .before in
-    child-inside _ _ (rw (c .before .before .kind .given .1) at (child-at _ _ (box .before .read .ensures 3) (box .child-box .ensures _))) .inner
+part-body-end c = box (c .before .before) .inner
 
 loop-holds : tie.Need-loop-holds Inv-loop μ-loop Inv-boxes μ-boxes
-loop-holds c =
-    let box = c .before .before .before .before .before .before in
-    let b = rw (c .before .before .before .before .kind .given .1) at (child-at _ _ (box .before .read .ensures 3) (box .child-box .ensures _)) in
-    let more = box .before .before in
-    (omega arith, heif-brands _ _ (more .before .boxes .inv) (more .if1 .left) b (c .before .before .if2 .taken) (c .if3 .left))
+loop-holds c = (omega arith, search (heif-brands, box (c .before .before .before .before)))
 
 sub-loop : tie.Need-sub-loop Inv-loop μ-loop Inv-boxes μ-boxes
 sub-loop c = search needs
@@ -79,32 +77,22 @@ loop-again : tie.Need-loop-again Inv-loop μ-loop Inv-boxes μ-boxes
 loop-again c = (omega arith, search brand-other)
 
 boxes-less : tie.Need-boxes-less Inv-loop μ-loop Inv-boxes μ-boxes
-boxes-less c =
-    let box = c .before .before .before .before in
-    let i = child-inside _ _ (rw (c .before .before .kind .given .1) at (child-at _ _ (box .before .read .ensures 3) (box .child-box .ensures _))) in
-    omega arith
+boxes-less c = box (c .before .before) .less
 
 boxes-again : tie.Need-boxes-again Inv-loop μ-loop Inv-boxes μ-boxes
-boxes-again c =
-    let box = c .before .before .before .before in
-    let b = rw (c .before .before .kind .given .1) at (child-at _ _ (box .before .read .ensures 3) (box .child-box .ensures _)) in
-    let more = box .before .before in
-    heif-other _ _ (more .before .boxes .inv) (more .if1 .left) b (c .if2 .left)
+boxes-again c = search (heif-other, box (c .before .before))
 
 returns : tie.Need-returns Inv-loop μ-loop Inv-boxes μ-boxes
 returns c = search heif-done
 
 returns-2 : tie.Need-returns-2 Inv-loop μ-loop Inv-boxes μ-boxes
 returns-2 c =
-    let box = c .before .before in
-    let b = rw (c .enum-told .given .1) at (child-at _ _ (box .before .read .ensures 3) (box .child-box .ensures _)) in
+    let tried = c .before .before in
+    let b = box-refused _ _ (tried .before .read .ensures 3) (tried .child-box .ensures _) (c .enum-told .given .1) in
     search heif-refused
 
 returns-3 : tie.Need-returns-3 Inv-loop μ-loop Inv-boxes μ-boxes
-returns-3 c =
-    let box = c .before .before .before .before .before .before in
-    let b = rw (c .before .before .before .before .kind .given .1) at (child-at _ _ (box .before .read .ensures 3) (box .child-box .ensures _)) in
-    search heif-small
+returns-3 c = search (heif-small, box (c .before .before .before .before))
 
 returns-4 : tie.Need-returns-4 Inv-loop μ-loop Inv-boxes μ-boxes
 returns-4 c = search brand-known

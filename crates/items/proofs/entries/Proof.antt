@@ -3,7 +3,7 @@ use mathlib.Core.Path.{_≡_}
 use mathlib.Core.Logic.{⊎-elim}
 use Prim.Native.Nat.{_-_, _≤_}
 use native.Mathlib.Omega.{arith}
-use Rattle.rules.specs.Laws.Headers.{child-at, child-inside}
+use Rattle.boxes.specs.Loops.{WholeBox, box-refused, box-whole}
 use Rattle.items.specs.Told.{idOf}
 use Rattle.items.specs.Wanted.{entriesOver, countOver, entries-none, entries-cut, entries-read, entries-other}
 use borrow.Author.Needs.{needs}
@@ -41,28 +41,30 @@ enum-known-e c = search needs
 returns : tie.Need-returns Inv-loop μ-loop
 unfolding countOver
 returns c =
-    let box = c .before .before .before in
-    let b = rw (c .before .e .given .1) at (child-at _ _ (box .before .read .ensures 3) (box .child-box .ensures _)) in
-    rw (box .before .before .before .before .before .count2 .given .1) (search entries-cut)
+    let tried = c .before .before .before in
+    let b = box-refused _ _ (tried .before .read .ensures 3) (tried .child-box .ensures _) (c .before .e .given .1) in
+    rw (tried .before .before .before .before .before .count2 .given .1) (search entries-cut)
 
 enum-known-kind : tie.Need-enum-known-kind Inv-loop μ-loop
 enum-known-kind c = search needs
 
+-- the box of this turn, once it is known to be whole
+box : (c : tie.After-kind Inv-loop μ-loop)
+    → let turn = c .before .before .before .before .before in
+    let b = c .kind .given .0 in
+    WholeBox (turn .before .before .before .before .before .args .body .now) (turn .loop .at) (b .0) (b .1 .0) (b .1 .1 .0)
+box c =
+    let tried = c .before .before in
+    box-whole _ _ (tried .before .read .ensures 3) (tried .child-box .ensures _) (c .kind .given .1)
+
 sub-parse-infe : tie.Need-sub-parse-infe Inv-loop μ-loop
-sub-parse-infe c =
-    let box = c .before .before .before .before in
-    child-inside _ _ (rw (c .before .before .kind .given .1) at (child-at _ _ (box .before .read .ensures 3) (box .child-box .ensures _))) .order
+sub-parse-infe c = box (c .before .before) .order
 
 part-parse-infe-start : tie.Need-part-parse-infe-start Inv-loop μ-loop
-part-parse-infe-start c =
-    let box = c .before .before .before .before in
-    let i = child-inside _ _ (rw (c .before .before .kind .given .1) at (child-at _ _ (box .before .read .ensures 3) (box .child-box .ensures _))) in
-    omega arith
+part-parse-infe-start c = box (c .before .before) .order
 
 part-parse-infe-end : tie.Need-part-parse-infe-end Inv-loop μ-loop
-part-parse-infe-end c =
-    let box = c .before .before .before .before in
-    child-inside _ _ (rw (c .before .before .kind .given .1) at (child-at _ _ (box .before .read .ensures 3) (box .child-box .ensures _))) .inner
+part-parse-infe-end c = box (c .before .before) .inner
 
 parse-infe-requires : tie.Need-parse-infe-requires Inv-loop μ-loop
 parse-infe-requires c κs = search needs
@@ -76,12 +78,10 @@ returns-2 c =
     let read = c .before .before .before in
     let if1 = read .before .before in
     let kind = if1 .before .before in
-    let box = kind .before .before in
-    let b = rw (kind .kind .given .1) at (child-at _ _ (box .before .read .ensures 3) (box .child-box .ensures _)) in
     let o = rw (c .before .e2 .given .1) at (read .parse-infe .ensures) in
-    let turn = box .before .before in
+    let turn = kind .before .before .before .before in
     let all = turn .before .before .before .count2 .given .1 in
-    rw all (entries-read _ _ _ _ _ (turn .before .loop .inv .1) (turn .loop-test .taken) b (if1 .if1 .taken) o)
+    rw all (entries-read _ _ _ _ _ (turn .before .loop .inv .1) (turn .loop-test .taken) (box kind) (if1 .if1 .taken) o)
 
 enum-known-id : tie.Need-enum-known-id Inv-loop μ-loop
 enum-known-id c = search needs
@@ -101,9 +101,8 @@ loop-less c = search needs
 loop-again : tie.Need-loop-again Inv-loop μ-loop
 loop-again c =
     let kind = c .before .before in
-    let box = kind .before .before in
-    let b = rw (kind .kind .given .1) at (child-at _ _ (box .before .read .ensures 3) (box .child-box .ensures _)) in
-    let turn = box .before .before in
+    let b = box kind in
+    let turn = kind .before .before .before .before in
     let inv = turn .before .loop .inv .1 in
     let more = turn .loop-test .taken in (
       omega arith,

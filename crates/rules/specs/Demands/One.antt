@@ -13,7 +13,7 @@ use Rattle.rules.specs.Doc.Outcomes.{if_then_else_, Outcome, fine, refus
 use Rattle.rules.specs.Doc.Bytes.{byteAt}
 use Rattle.rules.specs.Doc.Block.{bytesAt, block}
 use Rattle.rules.specs.Doc.Answers.{Answer, handed, answerWith, answer}
-use Rattle.rules.specs.Laws.Refusals.{Numbered, block-numbered, not-given, number-below, room-length}
+use Rattle.rules.specs.Laws.Refusals.{Numbered, block-numbered, not-given, refusal-below, room-length}
 use Rattle.rules.specs.Laws.Limit.{block-limit}
 
 -- there is a block, and it is longer than the buffer
@@ -94,7 +94,7 @@ module _ (img out : List ℕ) where
 
   number-by : (o : Outcome (List ℕ)) → Numbered o → answerBy o .number ≤ 28
   unfolding answerBy answerWith
-  number-by (refused n) p = omega (arith, number-below n p)
+  number-by (refused n) p = omega (arith, refusal-below n p)
   number-by (fine ps) p = go (leb (length ps) (length out))
     where
       go : (t : Bool) → (if t then 0 else 28) ≤ 28

@@ -1,5 +1,5 @@
 -- Where a box lies: a header that is there whole, the box that it announces, a box of either level.
-use mathlib.Core.Path.{_≡_, refl, ap, subst, _∙_}
+use mathlib.Core.Path.{_≡_, refl, subst}
 use Prim.Native.Nat.{ℕ, _+_, _^_, _≤_, _<_}
 use native.Mathlib.Omega.{arith}
 use mathlib.Core.Bool.{Bool, true, false, _||_}
@@ -11,7 +11,7 @@ use borrow.Author.Tests.{ltb-true, ltb-false, leb-true, ne-eqb}
 use Rattle.rules.specs.Doc.Outcomes.{Outcome, fine, _>>=_, require, given}
 use Rattle.rules.specs.Doc.Bytes.{numberAt, sizeOf}
 use Rattle.rules.specs.Doc.Headers.{ftyp, meta, Header, headerOf, headerAt, bodySize, Box, boxWith, is, addressable}
-use Rattle.rules.specs.Doc.Headers.{whole, skips, announced, standing, boxAt, childAt, fileBoxAt}
+use Rattle.rules.specs.Doc.Headers.{whole, skips, announced, boxAt, childAt, fileBoxAt}
 use Rattle.rules.specs.Laws.Rows.{apart, bind-fine, required}
 
 -- in n bytes, the box that a header at `at` announces: its body begins in them
@@ -93,11 +93,6 @@ unfolding whole
 whole-fits k n b e =
     let (u, p, q) = bind-fine (require (addressable (sizeOf (b .body))) 27) (λ u. require (leb (b .body .to) n) k) e in
     leb-true (b .body .to) n (required (leb (b .body .to) n) k q)
-
--- inside a box, the box at a position is the one that is announced there, if it stands the test
-pub child-at : (s : List ℕ) (at : ℕ) {a o : Outcome Box} → a ≡ announced 3 s at → o ≡ standing (whole 3 (length s)) a → o ≡ childAt s at
-unfolding childAt boxAt
-child-at s at e f = f ∙ ap (standing (whole 3 (length s))) e
 
 pub child-inside : (s : List ℕ) (at : ℕ) {b : Box} → fine b ≡ childAt s at → Inside (length s) at b
 unfolding childAt

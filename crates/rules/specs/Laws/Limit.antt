@@ -13,7 +13,7 @@ use Rattle.rules.specs.Doc.Bytes.{byteAt, numberAt, Span, bytesIn}
 use Rattle.rules.specs.Doc.Meta.{opened}
 use Rattle.rules.specs.Doc.Children.{kept}
 use Rattle.rules.specs.Doc.Iloc.{Extent, extents, chosen}
-use Rattle.rules.specs.Doc.Join.{lies, byMethod}
+use Rattle.rules.specs.Doc.Join.{byMethod}
 use Rattle.rules.specs.Doc.Block.{bytesAt, blockAfter, block}
 use Rattle.rules.specs.OverBytes.{gathered, totalFrom, blockOf, blockFrom, chosenBlock, itemBlock, keptBlock, metaBlock}
 use Rattle.rules.specs.Laws.Rows.{bind-fine, required}

@@ -321,8 +321,8 @@ pub not-given : (n k : ℕ) → Numbered {A = List ℕ} (refused n) → n ≡ k 
 not-given n k (with-number p) e out = out (rw e at p)
 
 -- none is above 27
-pub number-below : (n : ℕ) → Numbered {A = List ℕ} (refused n) → n ≤ 27
-number-below n (with-number p) = leb-true n 27 (go (leb 1 n) (leb n 27) p)
+pub refusal-below : (n : ℕ) → Numbered {A = List ℕ} (refused n) → n ≤ 27
+refusal-below n (with-number p) = leb-true n 27 (go (leb 1 n) (leb n 27) p)
   where
     go : (a b : Bool) → T (a && b) → b ≡ true
     go true true p = refl

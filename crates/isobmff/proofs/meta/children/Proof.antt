@@ -1,9 +1,8 @@
 -- The children from `at` on decide what all of them leave, given what those before left.
 use mathlib.Core.Path.{_≡_}
 use Prim.Native.Nat.{_-_}
-use native.Mathlib.Omega.{arith}
 use lib.ListN.{length}
-use Rattle.rules.specs.Laws.Headers.{child-at, child-inside}
+use Rattle.boxes.specs.Loops.{WholeBox, box-refused, box-whole}
 use Rattle.isobmff.specs.Told.{stateOf}
 use Rattle.isobmff.specs.Children.{childrenFrom, childrenOver, children-start, children-over}
 use Rattle.isobmff.specs.Children.{child-cut, child-iinf, child-iloc, child-idat, child-other}
@@ -31,29 +30,30 @@ enum-known-e c = search needs
 
 returns : tie.Need-returns Inv-loop μ-loop
 returns c =
-    let box = c .before .before .before in
-    let b = rw (c .before .e .given .1) at (child-at _ _ (box .before .read .ensures 3) (box .child-box .ensures _)) in
-    let turn = box .before .before in
-    child-cut _ _ _ (turn .before .loop .inv) (turn .loop-test .taken) b
+    let tried = c .before .before .before in
+    let b = box-refused _ _ (tried .before .read .ensures 3) (tried .child-box .ensures _) (c .before .e .given .1) in
+    search child-cut
 
 enum-known-kind : tie.Need-enum-known-kind Inv-loop μ-loop
 enum-known-kind c = search needs
 
+-- the box of this turn, once it is known to be whole
+box : (c : tie.After-kind Inv-loop μ-loop)
+    → let turn = c .before .before .before .before .before in
+    let b = c .kind .given .0 in
+    WholeBox (turn .before .before .args .body .now) (turn .loop .at) (b .0) (b .1 .0) (b .1 .1 .0)
+box c =
+    let tried = c .before .before in
+    box-whole _ _ (tried .before .read .ensures 3) (tried .child-box .ensures _) (c .kind .given .1)
+
 sub-parse-iinf : tie.Need-sub-parse-iinf Inv-loop μ-loop
-sub-parse-iinf c =
-    let box = c .before .before .before .before in
-    child-inside _ _ (rw (c .before .before .kind .given .1) at (child-at _ _ (box .before .read .ensures 3) (box .child-box .ensures _))) .order
+sub-parse-iinf c = box (c .before .before) .order
 
 part-parse-iinf-start : tie.Need-part-parse-iinf-start Inv-loop μ-loop
-part-parse-iinf-start c =
-    let box = c .before .before .before .before in
-    let i = child-inside _ _ (rw (c .before .before .kind .given .1) at (child-at _ _ (box .before .read .ensures 3) (box .child-box .ensures _))) in
-    omega arith
+part-parse-iinf-start c = box (c .before .before) .order
 
 part-parse-iinf-end : tie.Need-part-parse-iinf-end Inv-loop μ-loop
-part-parse-iinf-end c =
-    let box = c .before .before .before .before in
-    child-inside _ _ (rw (c .before .before .kind .given .1) at (child-at _ _ (box .before .read .ensures 3) (box .child-box .ensures _))) .inner
+part-parse-iinf-end c = box (c .before .before) .inner
 
 parse-iinf-requires : tie.Need-parse-iinf-requires Inv-loop μ-loop
 parse-iinf-requires c κs = search needs
@@ -66,75 +66,51 @@ returns-2 c =
     let read = c .before .before .before in
     let type = read .before .before in
     let kind = type .before .before in
-    let box = kind .before .before in
-    let b = rw (kind .kind .given .1) at (child-at _ _ (box .before .read .ensures 3) (box .child-box .ensures _)) in
     let o = rw (c .before .e2 .given .1) at (read .parse-iinf .ensures) in
-    let turn = box .before .before in
-    child-iinf _ _ _ (turn .before .loop .inv) (turn .loop-test .taken) b (type .match2 .keys1) o
+    let turn = kind .before .before .before .before in
+    child-iinf _ _ _ (turn .before .loop .inv) (turn .loop-test .taken) (box kind) (type .match2 .keys1) o
 
 enum-known-id : tie.Need-enum-known-id Inv-loop μ-loop
 enum-known-id c = search needs
 
 loop-less : tie.Need-loop-less Inv-loop μ-loop
-loop-less c =
-    let kind = c .before .before .before .before .before .before .before in
-    let box = kind .before .before in
-    let i = child-inside _ _ (rw (kind .kind .given .1) at (child-at _ _ (box .before .read .ensures 3) (box .child-box .ensures _))) in
-    omega arith
+loop-less c = box (c .before .before .before .before .before .before .before) .less
 
 loop-again : tie.Need-loop-again Inv-loop μ-loop
 loop-again c =
     let read = c .before .before .before in
     let type = read .before .before in
     let kind = type .before .before in
-    let box = kind .before .before in
-    let b = rw (kind .kind .given .1) at (child-at _ _ (box .before .read .ensures 3) (box .child-box .ensures _)) in
     let o = rw (c .before .id .given .1) at (read .parse-iinf .ensures) in
-    let turn = box .before .before in
-    child-iinf _ _ _ (turn .before .loop .inv) (turn .loop-test .taken) b (type .match2 .keys1) o
+    let turn = kind .before .before .before .before in
+    child-iinf _ _ _ (turn .before .loop .inv) (turn .loop-test .taken) (box kind) (type .match2 .keys1) o
 
 loop-less-2 : tie.Need-loop-less-2 Inv-loop μ-loop
-loop-less-2 c =
-    let box = c .before .before .before .before in
-    let i = child-inside _ _ (rw (c .before .before .kind .given .1) at (child-at _ _ (box .before .read .ensures 3) (box .child-box .ensures _))) in
-    omega arith
+loop-less-2 c = box (c .before .before) .less
 
 loop-again-2 : tie.Need-loop-again-2 Inv-loop μ-loop
 loop-again-2 c =
-    let box = c .before .before .before .before in
-    let b = rw (c .before .before .kind .given .1) at (child-at _ _ (box .before .read .ensures 3) (box .child-box .ensures _)) in
-    let turn = box .before .before in
-    child-iloc _ _ _ (turn .before .loop .inv) (turn .loop-test .taken) b (c .match2 .keys2)
+    let kind = c .before .before in
+    let turn = kind .before .before .before .before in
+    child-iloc _ _ _ (turn .before .loop .inv) (turn .loop-test .taken) (box kind) (c .match2 .keys2)
 
 loop-less-3 : tie.Need-loop-less-3 Inv-loop μ-loop
-loop-less-3 c =
-    let box = c .before .before .before .before in
-    let i = child-inside _ _ (rw (c .before .before .kind .given .1) at (child-at _ _ (box .before .read .ensures 3) (box .child-box .ensures _))) in
-    omega arith
+loop-less-3 c = box (c .before .before) .less
 
 loop-again-3 : tie.Need-loop-again-3 Inv-loop μ-loop
 loop-again-3 c =
-    let box = c .before .before .before .before in
-    let b = rw (c .before .before .kind .given .1) at (child-at _ _ (box .before .read .ensures 3) (box .child-box .ensures _)) in
-    let turn = box .before .before in
-    child-idat _ _ _ (turn .before .loop .inv) (turn .loop-test .taken) b (c .match2 .keys3)
+    let kind = c .before .before in
+    let turn = kind .before .before .before .before in
+    child-idat _ _ _ (turn .before .loop .inv) (turn .loop-test .taken) (box kind) (c .match2 .keys3)
 
 loop-less-4 : tie.Need-loop-less-4 Inv-loop μ-loop
-loop-less-4 c =
-    let box = c .before .before .before .before in
-    let i = child-inside _ _ (rw (c .before .before .kind .given .1) at (child-at _ _ (box .before .read .ensures 3) (box .child-box .ensures _))) in
-    omega arith
+loop-less-4 c = box (c .before .before) .less
 
 loop-again-4 : tie.Need-loop-again-4 Inv-loop μ-loop
-loop-again-4 c =
-    let box = c .before .before .before .before in
-    let b = rw (c .before .before .kind .given .1) at (child-at _ _ (box .before .read .ensures 3) (box .child-box .ensures _)) in
-    let turn = box .before .before in
-    let type = c .match2 .rest in
-    child-other _ _ _ (turn .before .loop .inv) (turn .loop-test .taken) b (type .0 .0 .1) (type .0 .1) (type .1)
+loop-again-4 c = search (child-other, box (c .before .before))
 
 returns-3 : tie.Need-returns-3 Inv-loop μ-loop
-returns-3 c = children-over _ _ _ (c .before .loop .inv) (c .loop-test .left)
+returns-3 c = search children-over
 
 pub children-spec : {M : Type 1} → statement M
 children-spec =
