@@ -67,13 +67,10 @@ fn smaller(case: &Case) -> impl Iterator<Item = Case> + '_ {
 
 /// As small as single steps make it, or as `most` questions allow.
 pub fn shrink(mut case: Case, mut most: usize, mut fails: impl FnMut(&Case) -> bool) -> Case {
-    let mut asked = |candidate: &Case| {
-        most = most.saturating_sub(1);
-        most > 0 && fails(candidate)
-    };
     loop {
-        let next = smaller(&case).find(&mut asked);
-        let Some(next) = next else { return case };
+        let next = smaller(&case).take(most).enumerate().find(|(_, candidate)| fails(candidate));
+        let Some((asked, next)) = next else { return case };
+        most -= asked + 1;
         case = next;
     }
 }

@@ -16,8 +16,7 @@ enum Refused {
 /// The Exif block of an image, at the front of `out`.
 fn exif<'a>(image: &[u8], out: &'a mut [u8]) -> Result<&'a [u8], Refused> {
     // SAFETY: both are slices, and `out` is borrowed mutably, so it overlaps nothing.
-    let answer =
-        unsafe { coinbarrow_exif(image.as_ptr(), image.len(), out.as_mut_ptr(), out.len()) };
+    let answer = unsafe { coinbarrow_exif(image.as_ptr(), image.len(), out.as_mut_ptr(), out.len()) };
     let (number, length) = ((answer >> 32) as u32, answer as u32 as usize);
     match number {
         0 => Ok(&out[..length]),

@@ -14,7 +14,8 @@ use Rattle.boxes.specs.declared.refusal.Refusal.{Refusal}
 use Rattle.boxes.specs.declared.level.Child.{Child}
 use Rattle.boxes.specs.declared.level.Child.the-variants.{Whole, Refused}
 
--- in the bytes `s`, the whole box at a position: a loop may take its body, and goes on behind it
+-- in the bytes `s`, the whole box at a position: document 01's (`is`); a loop may take its body (`order`, `inner`, `bytes`) and goes on behind it,
+-- with less left (`less`)
 pub record WholeBox (s : List ℕ) (at kind from to : ℕ) : Type 0 where
   pub is : fine (boxOf at kind from to) ≡ childAt s at
   pub order : from ≤ to
@@ -22,7 +23,7 @@ pub record WholeBox (s : List ℕ) (at kind from to : ℕ) : Type 0 where
   pub less : length s - to < length s - at
   pub bytes : bytesIn s (record { from = from; to = to }) ≡ part s from (to - from)
 
--- the two calls together: the box that is announced, if it stands the test
+-- the two calls together: the box that is announced, if it stands the test; a header that is cut inside a box is 3
 together : (s : List ℕ) (at : ℕ) {a o : Outcome Box} → a ≡ announced 3 s at → o ≡ standing (whole 3 (length s)) a → o ≡ childAt s at
 unfolding childAt boxAt
 together s at read tried = tried ∙ ap (standing (whole 3 (length s))) read

@@ -30,7 +30,7 @@ impl Header {
     }
 
     // `read_box_header` of the Rust, and the front of its `child_box`: the levels differ in what they say of a cut header.
-    // One place makes the answer of a header that was read: so the whole is short enough to be folded into every loop over boxes.
+    // One place makes the answer of a header that was read: so the whole is short enough to be folded into each loop over boxes.
     pub fn read(s: &[u8], at: usize) -> Header
         ensures { λ r. ⌜ ((cut : ℕ) → announces cut at r ≡ announced cut (now (s .entry)) at) ⌝ }
     {

@@ -17,7 +17,7 @@ pub enum Child {
 }
 
 // What is said of a header inside a box, whose bytes are `s`: the rest of the Rust's `child_box`.
-// With `Header::read` inside it would be too long to be folded into every loop over boxes, so a loop calls the two.
+// With `Header::read` inside it would be too long to be folded into the loops over child boxes, so a loop calls the two.
 pub fn child_box(s: &[u8], header: Header) -> Child
     ensures { λ r. ⌜ ((at : ℕ) → child at r ≡ standing (whole 3 (length (now (s .entry)))) (announces 3 at header)) ⌝ }
 {
