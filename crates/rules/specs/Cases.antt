@@ -1,4 +1,4 @@
--- "File H and its neighbours": the cases marked P, one list with one claim, which the checker computes.
+-- "File H and its neighbours": the cases marked P, one list with one claim, and the listing of H. The checker computes them.
 -- Assumes nothing.
 use Prim.Native.Nat.{ℕ, zero, suc, _+_, _/_, _%_, _^_}
 use mathlib.Core.Bool.{Bool, true, false, _&&_}
@@ -6,6 +6,8 @@ use mathlib.Core.List.{List, [], _∷_, _++_}
 use lib.ListN.{length, take, drop}
 use lib.Dec.{T, eqb}
 use Rattle.rules.specs.Doc.Answers.{Answer, answer}
+use Rattle.rules.specs.Doc.Text.{ascii}
+use Rattle.rules.specs.Doc.Listing.{newline, listing}
 use Rattle.rules.specs.Unfold.{document}
 
 -- the n bytes of a number, as a line of the document writes them
@@ -103,3 +105,18 @@ every p (x ∷ xs) = p x && every p xs
 pub all-cases : T (every right cases)
 unfolding document every right sameAnswer same cases refuses gives fresh changed H line
 all-cases = tt
+
+-- Listing of H, whole.
+unfoldable pub linesOfH : List ℕ
+linesOfH =
+    ascii "depth=0 at=0 type=66747970 header=8 body=12" ++ newline
+    ++ ascii "depth=0 at=20 type=6d657461 header=8 body=88" ++ newline
+    ++ ascii "depth=1 at=32 type=69696e66 header=8 body=27" ++ newline
+    ++ ascii "depth=2 at=46 type=696e6665 header=8 body=13" ++ newline
+    ++ ascii "depth=1 at=67 type=696c6f63 header=8 body=24" ++ newline
+    ++ ascii "depth=1 at=99 type=69646174 header=8 body=9" ++ newline
+    ++ ascii "end=116 answer=0" ++ newline
+
+pub listing-of-H : T (same (listing H) linesOfH)
+unfolding document same linesOfH H line
+listing-of-H = tt

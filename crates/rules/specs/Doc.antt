@@ -21,3 +21,6 @@ pub mod Heif
 -- "Numbers given back", and "Bytes consulted".
 pub mod Answers
 pub mod Consulted
+-- "The listing", and what its text is made of.
+pub mod Text
+pub mod Listing

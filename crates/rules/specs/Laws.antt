@@ -19,3 +19,5 @@ pub mod Limit
 pub mod Agreement
 pub mod SameBoxes
 pub mod Refusals
+pub mod Text
+pub mod Listing

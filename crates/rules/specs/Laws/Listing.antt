@@ -1,0 +1,97 @@
+-- The listing in the words of its two functions: a run of boxes one box at a time, and what one box has in it, without a count of steps; the text
+-- of the lines apart from the last line.
+use mathlib.Core.Path.{_≡_, refl, sym, ap, _∙_}
+use Prim.Native.Nat.{ℕ, zero, suc, _+_, _≤_, _<_}
+use native.Mathlib.Omega.{arith}
+use mathlib.Core.List.{List, [], _++_, append-assoc}
+use lib.ListN.{length, take}
+use lib.Dec.{leb}
+use borrow.Author.Tests.{le-leb, lt-leb}
+use Rattle.rules.specs.Doc.Outcomes.{if_then_else_, Outcome, fine, refused}
+use Rattle.rules.specs.Doc.Headers.{Box, childAt}
+use Rattle.rules.specs.Doc.Listing.{Listing, finished, fault, line, _then_, opening, met, rowOf, childrenOf, depthOver, openBox, listRun, lineText, textOf}
+use Rattle.rules.specs.Laws.Headers.{child-inside}
+
+-- ---- Lines, and how they end
+
+-- the text of the lines
+unfoldable pub linesText : Listing → List ℕ
+linesText finished = []
+linesText (fault at k) = []
+linesText (line x l) = lineText x ++ linesText l
+
+-- a listing without its lines
+unfoldable pub ending : Listing → Listing
+ending finished = finished
+ending (fault at k) = fault at k
+ending (line x l) = ending l
+
+pub text-lines : (n : ℕ) (l : Listing) → textOf n l ≡ linesText l ++ textOf n (ending l)
+unfolding textOf linesText ending
+text-lines n finished = refl
+text-lines n (fault at k) = refl
+text-lines n (line x l) = rw (text-lines n l, append-assoc)
+
+apart : {at k : ℕ} → finished ≡ fault at k → ⊥
+apart e = let z : _≡_ {A = ℕ} 0 1 = cc in omega arith
+
+pub then-ending : (a b : Listing) → ending (a then b) ≡ (ending a then ending b)
+unfolding ending _then_
+then-ending finished b = refl
+then-ending (fault at k) b = refl
+then-ending (line x a) b = then-ending a b
+
+-- the lines of two listings in a row: of both, or of the first alone, where it ends in a fault
+pub then-lines : (a b : Listing) → finished ≡ ending a → linesText (a then b) ≡ linesText a ++ linesText b
+unfolding ending _then_ linesText
+then-lines finished b e = refl
+then-lines (fault at k) b e = absurd (apart e)
+then-lines (line x a) b e = rw (then-lines a b e, append-assoc)
+
+pub fault-lines : (a b : Listing) {at k : ℕ} → fault at k ≡ ending a → linesText (a then b) ≡ linesText a
+unfolding ending _then_ linesText
+fault-lines finished b e = absurd (apart (sym e))
+fault-lines (fault p j) b e = refl
+fault-lines (line x a) b e = rw (fault-lines a b e)
+
+-- ---- A run of boxes
+
+module _ (depth : ℕ) (inner : Box → Listing) (s : List ℕ) where
+  met-cong : (at : ℕ) (o : Outcome Box) → o ≡ childAt s at → (f g : ℕ → Listing) → ((q : ℕ) → at < q → f q ≡ g q) → met depth at o inner f ≡ met depth at o inner g
+  unfolding met
+  met-cong at (refused k) c f g e = refl
+  met-cong at (fine b) c f g e =
+      let i = child-inside s at c in
+      rw (e (b .body .to) (omega arith))
+
+  -- any two counts that are large enough give the same
+  enough : (n m at : ℕ) → length s ≤ at + n → length s ≤ at + m → rowOf depth inner s n at ≡ rowOf depth inner s m at
+  unfolding rowOf
+  enough zero zero at h k = refl
+  enough zero (suc m) at h k = rw (le-leb (length s) at (omega arith))
+  enough (suc n) zero at h k = rw (le-leb (length s) at (omega arith))
+  enough (suc n) (suc m) at h k =
+      ap (λ (l : Listing). if leb (length s) at then finished else l)
+      (met-cong at (childAt s at) refl (rowOf depth inner s n) (rowOf depth inner s m) (λ q j. enough n m q (omega arith) (omega arith)))
+
+module _ (levels : ℕ) (s : List ℕ) (at : ℕ) where
+  unroll : listRun levels s at ≡ (if leb (length s) at then finished else met (depthOver levels) at (childAt s at) (openBox levels s) (listRun levels s))
+  unfolding listRun rowOf
+  unroll = enough (depthOver levels) (openBox levels s) s (length s) (suc (length s)) at (omega arith) (omega arith)
+
+  pub run-done : length s ≤ at → listRun levels s at ≡ finished
+  run-done h = unroll ∙ rw (le-leb (length s) at h)
+
+  pub run-next : at < length s → listRun levels s at ≡ met (depthOver levels) at (childAt s at) (openBox levels s) (listRun levels s)
+  run-next h = unroll ∙ rw (lt-leb (length s) at h)
+
+-- ---- One box
+
+module _ (s : List ℕ) (b : Box) where
+  pub open-none : openBox 0 s b ≡ finished
+  unfolding openBox
+  open-none = refl
+
+  pub open-more : (levels : ℕ) → openBox (suc levels) s b ≡ childrenOf (b .start) (opening s b) (listRun levels (take (b .body .to) s))
+  unfolding openBox listRun
+  open-more levels = refl

@@ -1,0 +1,71 @@
+-- Numbers as text, digit by digit, and how many digits they have.
+use mathlib.Core.Path.{_≡_, refl, _∙_}
+use Prim.Native.Nat.{ℕ, zero, suc, _+_, _-_, _*_, _/_, _%_, _≤_, _<_}
+use native.Mathlib.Omega.{arith}
+use mathlib.Core.Bool.{Bool, true, false}
+use mathlib.Core.List.{List, [], _∷_, _++_}
+use lib.ListN.{length, length-append}
+use lib.Dec.{ltb}
+use borrow.Author.Tests.{lt-ltb, le-ltb, ltb-true, ltb-false}
+use Rattle.rules.specs.Doc.Outcomes.{if_then_else_}
+use Rattle.rules.specs.Doc.Text.{digit, hex, decimalTo, decimal}
+
+-- ---- Decimal numbers
+
+-- any two counts that are large enough give the same
+enough : (f g n : ℕ) → n ≤ f → n ≤ g → decimalTo f n ≡ decimalTo g n
+unfolding decimalTo
+enough zero zero n h k = refl
+enough zero (suc g) n h k = let e : n ≡ 0 = omega arith in rw e
+enough (suc f) zero n h k = let e : n ≡ 0 = omega arith in rw e
+enough (suc f) (suc g) n h k = go (ltb n 10) refl (λ l. enough f g (n / 10) (omega arith) (omega arith))
+  where
+    go : (t : Bool) → ltb n 10 ≡ t → (10 ≤ n → decimalTo f (n / 10) ≡ decimalTo g (n / 10))
+        → (if t then digit n ∷ [] else decimalTo f (n / 10) ++ (digit (n % 10) ∷ [])) ≡ (if t then digit n ∷ [] else decimalTo g (n / 10) ++ (digit (n % 10) ∷ []))
+    go true e ih = refl
+    go false e ih = rw (ih (ltb-false n 10 e))
+
+pub decimal-one : (n : ℕ) → n < 10 → decimal n ≡ digit n ∷ []
+unfolding decimal decimalTo
+decimal-one n h = enough n (suc n) n (omega arith) (omega arith) ∙ rw (lt-ltb n 10 h)
+
+pub decimal-more : (n : ℕ) → 10 ≤ n → decimal n ≡ decimal (n / 10) ++ (digit (n % 10) ∷ [])
+unfolding decimal decimalTo
+decimal-more n h = enough n (suc n) n (omega arith) (omega arith) ∙ rw (le-ltb n 10 h, enough n (n / 10) (n / 10) (omega arith) (omega arith))
+
+-- ---- Numbers in base 16
+
+pub hex-none : (k n : ℕ) → k ≡ 0 → hex k n ≡ []
+unfolding hex
+hex-none k n e = rw e
+
+pub hex-more : (k n : ℕ) → (k ≡ 0 → ⊥) → hex k n ≡ hex (k - 1) (n / 16) ++ (digit (n % 16) ∷ [])
+unfolding hex
+hex-more zero n h = absurd (h refl)
+hex-more (suc k) n h = let e : suc k - 1 ≡ k = omega arith in rw e
+
+-- ---- How long they are
+
+pub one-digit : (n : ℕ) → n < 10 → length (decimal n) ≡ 1
+one-digit n h = rw (decimal-one n h)
+
+-- one digit more than a number ten times smaller
+digits-more : (b k n : ℕ) → n < 10 * b → (n / 10 < b → length (decimal (n / 10)) ≤ suc k) → length (decimal n) ≤ suc (suc k)
+digits-more b k n h ih = go (ltb n 10) refl
+  where
+    go : (t : Bool) → ltb n 10 ≡ t → length (decimal n) ≤ suc (suc k)
+    go true e = omega (arith, one-digit n (ltb-true n 10 e))
+    go false e = rw (decimal-more n (ltb-false n 10 e), length-append (decimal (n / 10)) (digit (n % 10) ∷ [])) (omega (arith, ih (omega arith)))
+
+pub five-digits : (n : ℕ) → n < 100000 → length (decimal n) ≤ 5
+five-digits n h =
+    digits-more 10000 3 n h λ h.
+    digits-more 1000 2 (n / 10) h λ h.
+    digits-more 100 1 (n / 10 / 10) h λ h.
+    digits-more 10 0 (n / 10 / 10 / 10) h λ h.
+    omega (arith, one-digit (n / 10 / 10 / 10 / 10) h)
+
+pub hex-length : (k n : ℕ) → length (hex k n) ≡ k
+unfolding hex
+hex-length zero n = refl
+hex-length (suc k) n = rw (length-append (hex k (n / 16)) (digit (n % 16) ∷ []), hex-length k (n / 16)) (omega arith)
