@@ -50,12 +50,15 @@ pub one-digit : (n : ℕ) → n < 10 → length (decimal n) ≡ 1
 one-digit n h = rw (decimal-one n h)
 
 -- one digit more than a number ten times smaller
+pub decimal-longer : (n : ℕ) → 10 ≤ n → length (decimal n) ≡ length (decimal (n / 10)) + 1
+decimal-longer n h = rw (decimal-more n h, length-append (decimal (n / 10)) (digit (n % 10) ∷ []))
+
 digits-more : (b k n : ℕ) → n < 10 * b → (n / 10 < b → length (decimal (n / 10)) ≤ suc k) → length (decimal n) ≤ suc (suc k)
 digits-more b k n h ih = go (ltb n 10) refl
   where
     go : (t : Bool) → ltb n 10 ≡ t → length (decimal n) ≤ suc (suc k)
     go true e = omega (arith, one-digit n (ltb-true n 10 e))
-    go false e = rw (decimal-more n (ltb-false n 10 e), length-append (decimal (n / 10)) (digit (n % 10) ∷ [])) (omega (arith, ih (omega arith)))
+    go false e = omega (arith, decimal-longer n (ltb-false n 10 e), ih (omega arith))
 
 pub five-digits : (n : ℕ) → n < 100000 → length (decimal n) ≤ 5
 five-digits n h =

@@ -1,0 +1,41 @@
+-- What it is to write bytes into a buffer from a position on, and that texts written one behind the other are one text.
+use mathlib.Core.Path.{_≡_, refl, sym, ap, _∙_}
+use Prim.Native.Nat.{ℕ, suc, _+_, _<_}
+use native.Mathlib.Omega.{arith}
+use native.Mathlib.Numerals.{add-one}
+use native.Mathlib.Nat.{add-zero}
+use mathlib.Core.List.{List, [], _∷_, _++_}
+use lib.ListN.{length, take, getD, set, length-append}
+use lib.Seq.{take-suc, sets}
+
+-- `before` and `after` are the buffer, `end` is the place behind the bytes. Where there is no room, `sets` leaves them out; the place counts on.
+pub record Wrote (bytes : List ℕ) (at : ℕ) (before : List ℕ) (end : ℕ) (after : List ℕ) : Type 0 where
+  pub place : end ≡ at + length bytes
+  pub buffer : after ≡ sets before at bytes
+
+pub wrote-none : (at : ℕ) (out : List ℕ) → Wrote [] at out at out
+wrote-none at out = record { place = omega arith; buffer = refl }
+
+sets-append : (a b out : List ℕ) (at : ℕ) → sets out at (a ++ b) ≡ sets (sets out at a) (at + length a) b
+sets-append [] b out at = rw (add-zero at)
+sets-append (x ∷ a) b out at =
+    let e : suc at + length a ≡ at + suc (length a) = omega arith in
+    rw (← e) (sets-append a b (set out at x) (suc at))
+
+pub wrote-then : {a b : List ℕ} {at m r : ℕ} {before between after : List ℕ}
+    → Wrote a at before m between → Wrote b m between r after → Wrote (a ++ b) at before r after
+wrote-then {a} {b} {at} {m} {r} {before} p q =
+    record {
+      place = rw (length-append a b) (omega (arith, p .place, q .place));
+      buffer = q .buffer ∙ rw (p .place, p .buffer) (sym (sets-append a b before at));
+    }
+
+-- one byte more of a part
+pub wrote-more : (s : List ℕ) {i at m r : ℕ} {before between after : List ℕ} → i < length s
+    → Wrote (take i s) at before m between → Wrote (getD s i 0 ∷ []) m between r after → Wrote (take (i + 1) s) at before r after
+wrote-more s {i} h p q = rw (add-one i, take-suc s i 0 h) (wrote-then p q)
+
+-- no two outcomes are the same text written
+pub wrote-one : {bytes : List ℕ} {at : ℕ} {before : List ℕ} {r r′ : ℕ} {after after′ : List ℕ}
+    → Wrote bytes at before r after → Wrote bytes at before r′ after′ → (r ≡ r′) × (after ≡ after′)
+wrote-one p q = (p .place ∙ sym (q .place), p .buffer ∙ sym (q .buffer))
