@@ -20,4 +20,6 @@ pub mod Agreement
 pub mod SameBoxes
 pub mod Refusals
 pub mod Text
+pub mod Moved
 pub mod Listing
+pub mod ListingLength

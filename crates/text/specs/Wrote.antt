@@ -1,6 +1,6 @@
 -- What it is to write bytes into a buffer from a position on, and that texts written one behind the other are one text.
 use mathlib.Core.Path.{_≡_, refl, sym, ap, _∙_}
-use Prim.Native.Nat.{ℕ, suc, _+_, _<_}
+use Prim.Native.Nat.{ℕ, suc, _+_, _^_, _<_}
 use native.Mathlib.Omega.{arith}
 use native.Mathlib.Numerals.{add-one}
 use native.Mathlib.Nat.{add-zero}
@@ -29,6 +29,17 @@ wrote-then {a} {b} {at} {m} {r} {before} p q =
       place = rw (length-append a b) (omega (arith, p .place, q .place));
       buffer = q .buffer ∙ rw (p .place, p .buffer) (sym (sets-append a b before at));
     }
+
+-- where the place behind two texts can be told, so can that behind the first, and that behind the second from there
+pub room-first : (at : ℕ) (a b : List ℕ) → at + length (a ++ b) < 2 ^ 64 → at + length a < 2 ^ 64
+room-first at a b h = let e = length-append a b in omega (arith, h)
+
+-- of four texts in a row, that behind the first two
+pub room-two : (at : ℕ) (a b c d : List ℕ) → at + length (a ++ b ++ c ++ d) < 2 ^ 64 → at + length (a ++ b) < 2 ^ 64
+room-two at a b c d h = room-first at (a ++ b) c (room-first at (a ++ b ++ c) d h)
+
+pub room-then : {at m : ℕ} {a before between : List ℕ} → Wrote a at before m between → (b : List ℕ) → at + length (a ++ b) < 2 ^ 64 → m + length b < 2 ^ 64
+room-then {at} {m} {a} p b h = let e = length-append a b in omega (arith, p .place, h)
 
 -- one byte more of a part
 pub wrote-more : (s : List ℕ) {i at m r : ℕ} {before between after : List ℕ} → i < length s

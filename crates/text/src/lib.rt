@@ -53,7 +53,7 @@ pub fn put_decimal(n: usize, out: &mut [u8], at: usize) -> usize
 
 // The last k digits in base 16.
 pub fn put_hex(k: usize, n: usize, out: &mut [u8], at: usize) -> usize
-    requires { ⌜ at + k < 2 ^ 64 ⌝ }
+    requires { ⌜ at + length (hex k n) < 2 ^ 64 ⌝ }
     ensures { λ r. ⌜ Wrote (hex k n) at (now (out .entry)) r (now (out .exit)) ⌝ }
 {
     if k == 0 {

@@ -1,5 +1,6 @@
 -- "The listing": one line a box, and a last line.
 use Prim.Native.Nat.{ℕ, zero, suc, _+_, _-_}
+use Prim.Native.String.{String}
 use mathlib.Core.Option.{Option, none, some}
 use mathlib.Core.List.{List, [], _∷_, _++_}
 use lib.ListN.{length, take}
@@ -47,12 +48,16 @@ holders = 0x6d6f6f76 ∷ 0x7472616b ∷ 0x6d646961 ∷ 0x6d696e66 ∷ 0x64696e66
 unfoldable pub behind : ℕ → Box → Outcome (Option ℕ)
 behind n b = if ltb (sizeOf (b .body)) n then refused 3 else fine (some (b .body .from + n))
 
--- Where the children of a box start: at once, in `meta` after 4 bytes, in `iinf` after 6 (version 0) or 8. Every other type is a leaf.
+-- In `iinf` the count stands before them: they start after 6 bytes (version 0) or 8.
+unfoldable pub behindCount : List ℕ → Box → Outcome (Option ℕ)
+behindCount s b = version (bytesIn s (b .body)) 0 >>= λ v. behind (4 + countSize v) b
+
+-- Where the children of a box start: at once, in `meta` after 4 bytes, in `iinf` after the count. Every other type is a leaf.
 unfoldable pub opening : List ℕ → Box → Outcome (Option ℕ)
 opening s b =
     if any (λ k. is k b) holders then behind 0 b
     else if is meta b then behind 4 b
-    else if is iinf b then (version (bytesIn s (b .body)) 0 >>= λ v. behind (4 + countSize v) b)
+    else if is iinf b then behindCount s b
     else fine none
 
 -- ---- A run of boxes, and one box
@@ -98,17 +103,18 @@ listRun levels s at = rowOf (depthOver levels) (openBox levels s) s (length s) a
 abbrev pub newline : List ℕ
 newline = 10 ∷ []
 
+-- a name and a number
+abbrev pub named : String → ℕ → List ℕ
+named name n = ascii name ++ decimal n
+
+unfoldable pub frontText : ℕ → ℕ → ℕ → List ℕ
+frontText depth at kind = named "depth=" depth ++ named " at=" at ++ ascii " type=" ++ hex 8 kind
+
 unfoldable pub lineText : Line → List ℕ
-lineText x =
-    ascii "depth=" ++ decimal (x .depth)
-    ++ ascii " at=" ++ decimal (x .at)
-    ++ ascii " type=" ++ hex 8 (x .kind)
-    ++ ascii " header=" ++ decimal (x .header)
-    ++ ascii " body=" ++ decimal (x .body)
-    ++ newline
+lineText x = frontText (x .depth) (x .at) (x .kind) ++ named " header=" (x .header) ++ named " body=" (x .body) ++ newline
 
 unfoldable pub lastText : ℕ → ℕ → List ℕ
-lastText at n = ascii "end=" ++ decimal at ++ ascii " answer=" ++ decimal n ++ newline
+lastText at n = named "end=" at ++ named " answer=" n ++ newline
 
 -- The last line has the image's length and 0, or the start of the box that couldn't be read or opened and its number.
 unfoldable pub textOf : ℕ → Listing → List ℕ

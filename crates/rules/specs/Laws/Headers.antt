@@ -65,7 +65,7 @@ header-in n at x y z = go (ltb n (at + 8)) (eqb x 1) (ltb n (at + 16)) refl refl
 -- ---- Where a box lies
 
 -- the box that a header announces begins in the bytes
-begins : (cut : ℕ) (s : List ℕ) (at : ℕ) {b : Box} → fine b ≡ announced cut s at → Begins (length s) at b
+pub begins : (cut : ℕ) (s : List ℕ) (at : ℕ) {b : Box} → fine b ≡ announced cut s at → Begins (length s) at b
 unfolding announced headerAt boxWith
 begins cut s at e = go (headerAt s at) (header-in (length s) at (numberAt s at 4) (numberAt s (at + 4) 4) (numberAt s (at + 8) 8)) e
   where
@@ -78,7 +78,7 @@ begins cut s at e = go (headerAt s at) (header-in (length s) at (numberAt s at 4
         subst (Begins (length s) at) z (record { starts = i .0; ahead = omega arith; inner = omega arith; order = omega arith })
 
 -- a box of a level was announced, and stood the level's test
-passed : (cut : ℕ) (test : Box → Outcome (Unit {0})) (s : List ℕ) (at : ℕ) {b : Box} → fine b ≡ boxAt cut test s at
+pub passed : (cut : ℕ) (test : Box → Outcome (Unit {0})) (s : List ℕ) (at : ℕ) {b : Box} → fine b ≡ boxAt cut test s at
     → (fine b ≡ announced cut s at) × (fine tt ≡ test b)
 unfolding boxAt
 passed cut test s at {b} e =

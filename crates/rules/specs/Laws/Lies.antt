@@ -1,6 +1,6 @@
 -- Where the boxes of a walk that ended well lie, and with them the `meta` that is opened, the last `idat`, and the bytes that a method names.
 use mathlib.Core.Path.{_≡_, refl, sym, _∙_}
-use Prim.Native.Nat.{ℕ, zero, suc, _+_, _-_, _≤_}
+use Prim.Native.Nat.{ℕ, zero, suc, _+_, _≤_}
 use native.Mathlib.Omega.{arith}
 use mathlib.Core.Bool.{Bool, true, false}
 use mathlib.Core.Option.{Option, none, some, Option·none-ne-some}
@@ -30,7 +30,7 @@ pub record Lies (n : ℕ) (p : Span) : Type 0 where
   pub order : p .from ≤ p .to
   pub inner : p .to ≤ n
 
-abbrev All : {A : Type 0} → (A → Type 0) → List A → Type 0
+abbrev pub All : {A : Type 0} → (A → Type 0) → List A → Type 0
 All P [] = Unit {0}
 All P (x ∷ xs) = P x × All P xs
 
@@ -190,16 +190,26 @@ step-order l s at = go (leb (length s) at) (headerAt s at)
     go false none = tt
     go false (some h) = λ v e. omega arith
 
-pub opened-lies : (img : List ℕ) (m : Box) → opened img ≡ fine m → Lies (length img) (m .body)
-unfolding opened openedIn top boxes
-opened-lies img m e =
+-- it ended the walk, and is whole
+pub opened-parts : (img : List ℕ) (m : Box) → opened img ≡ fine m → (fine m ≡ stopped (top img .end)) × (fine tt ≡ whole 2 (length img) m)
+unfolding opened openedIn
+opened-parts img m e =
     let n : ℕ = length img in
     let w : Walk Box = top img in
     let (b, p, e₁) = bind-fine (stopped (w .end)) (λ m. require (any (is ftyp) (w .list)) 6 >>= λ u. whole 2 n m >>= λ v. fine m) (sym e) in
     let (u, q, e₂) = bind-fine (require (any (is ftyp) (w .list)) 6) (λ u. whole 2 n b >>= λ v. fine b) e₁ in
     let (v, r, e₃) = bind-fine (whole 2 n b) (λ v. fine b) e₂ in
     let k : m ≡ b = cc in
-    rw k (record { order = run-stop (λ b. b .body .from ≤ b .body .to) (levelStep topLevel img) (step-order topLevel img) n 0 (sym p); inner = whole-fits 2 n b r })
+    rw k (p, r)
+
+pub opened-lies : (img : List ℕ) (m : Box) → opened img ≡ fine m → Lies (length img) (m .body)
+unfolding top boxes
+opened-lies img m e =
+    let (p, r) = opened-parts img m e in
+    record {
+      order = run-stop (λ b. b .body .from ≤ b .body .to) (levelStep topLevel img) (step-order topLevel img) (length img) 0 (sym p);
+      inner = whole-fits 2 (length img) m r;
+    }
 
 -- ---- The bytes that a method names
 

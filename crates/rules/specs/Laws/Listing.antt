@@ -1,15 +1,20 @@
 -- The listing in the words of its two functions: a run of boxes one box at a time, and what one box has in it, without a count of steps; the text
 -- of the lines apart from the last line.
-use mathlib.Core.Path.{_≡_, refl, sym, ap, _∙_}
-use Prim.Native.Nat.{ℕ, zero, suc, _+_, _≤_, _<_}
+use mathlib.Core.Path.{_≡_, refl, sym, ap, subst, _∙_}
+use Prim.Native.Nat.{ℕ, zero, suc, _+_, _-_, _≤_, _<_}
 use native.Mathlib.Omega.{arith}
+use mathlib.Core.Option.{Option, none, some}
 use mathlib.Core.List.{List, [], _++_, append-assoc}
-use lib.ListN.{length, take}
-use lib.Dec.{leb}
+use lib.ListN.{length, take, length-append}
+use lib.Dec.{leb, ltb}
 use borrow.Author.Tests.{le-leb, lt-leb}
-use Rattle.rules.specs.Doc.Outcomes.{if_then_else_, Outcome, fine, refused}
-use Rattle.rules.specs.Doc.Headers.{Box, childAt}
-use Rattle.rules.specs.Doc.Listing.{Listing, finished, fault, line, _then_, opening, met, rowOf, childrenOf, depthOver, openBox, listRun, lineText, textOf}
+use Rattle.rules.specs.Doc.Outcomes.{if_then_else_, Outcome, fine, refused, _>>=_}
+use Rattle.rules.specs.Doc.Lists.{any}
+use Rattle.rules.specs.Doc.Bytes.{sizeOf, bytesIn, version}
+use Rattle.rules.specs.Doc.Headers.{meta, iinf, Box, is, childAt}
+use Rattle.rules.specs.Doc.Iinf.{countSize}
+use Rattle.rules.specs.Doc.Listing.{Listing, finished, fault, line, _then_, holders, behind, behindCount, opening, met, rowOf, childrenOf, depthOver, openBox, listRun, lineText, textOf}
+use Rattle.rules.specs.Laws.Rows.{by-test}
 use Rattle.rules.specs.Laws.Headers.{child-inside}
 
 -- ---- Lines, and how they end
@@ -54,6 +59,12 @@ fault-lines finished b e = absurd (apart (sym e))
 fault-lines (fault p j) b e = refl
 fault-lines (line x a) b e = rw (fault-lines a b e)
 
+pub then-longer : (a b : Listing) → length (linesText a) ≤ length (linesText (a then b))
+unfolding _then_ linesText
+then-longer finished b = omega arith
+then-longer (fault at k) b = omega arith
+then-longer (line x a) b = simp length-append (omega (arith, then-longer a b))
+
 -- ---- A run of boxes
 
 module _ (depth : ℕ) (inner : Box → Listing) (s : List ℕ) where
@@ -95,3 +106,37 @@ module _ (s : List ℕ) (b : Box) where
   pub open-more : (levels : ℕ) → openBox (suc levels) s b ≡ childrenOf (b .start) (opening s b) (listRun levels (take (b .body .to) s))
   unfolding openBox listRun
   open-more levels = refl
+
+  pub open-fewer : (levels : ℕ) → (levels ≡ 0 → ⊥) → openBox levels s b ≡ childrenOf (b .start) (opening s b) (listRun (levels - 1) (take (b .body .to) s))
+  open-fewer zero h = absurd (h refl)
+  open-fewer (suc levels) h = let e : suc levels - 1 ≡ levels = omega arith in rw e (open-more levels)
+
+-- ---- Where children start
+
+-- children that start in a body, or nothing that could lie elsewhere
+abbrev Ahead : ℕ → Outcome (Option ℕ) → Type 0
+Ahead start (refused k) = Unit {0}
+Ahead start (fine none) = Unit {0}
+Ahead start (fine (some from)) = start ≤ from
+
+module _ (b : Box) where
+  abbrev InBody : Outcome (Option ℕ) → Type 0
+  InBody o = Ahead (b .body .from) o
+
+  behind-ahead : (n : ℕ) → InBody (behind n b)
+  unfolding behind
+  behind-ahead n = by-test InBody (ltb (sizeOf (b .body)) n) (λ e. tt) (λ e. omega arith)
+
+  count-ahead : (v : Outcome ℕ) → InBody (v >>= λ v. behind (4 + countSize v) b)
+  count-ahead (refused k) = tt
+  count-ahead (fine v) = behind-ahead (4 + countSize v)
+
+  opening-ahead : (s : List ℕ) → InBody (opening s b)
+  unfolding behindCount opening
+  opening-ahead s =
+      by-test InBody (any (λ k. is k b) holders) (λ e. behind-ahead 0)
+      (λ e. by-test InBody (is meta b) (λ e. behind-ahead 4)
+      (λ e. by-test InBody (is iinf b) (λ e. count-ahead (version (bytesIn s (b .body)) 0)) (λ e. tt)))
+
+pub children-ahead : (s : List ℕ) (b : Box) {from : ℕ} → fine (some from) ≡ opening s b → b .body .from ≤ from
+children-ahead s b e = subst (Ahead (b .body .from)) (sym e) (opening-ahead b s)

@@ -12,7 +12,7 @@ use Rattle.rules.specs.Doc.Outcomes.{if_then_else_, Outcome, fine, refus
 use Rattle.rules.specs.Doc.Lists.{any, only, lastOf}
 use Rattle.rules.specs.Doc.Bytes.{Span, sizeOf, bytesIn, field, sized, version}
 use Rattle.rules.specs.Doc.Walks.{Then, onward, halt, Step, over, cut, met, End, ended, cutAt, refusedAt, stoppedAt, Walk, bare, walked, judged, after, run, outcome}
-use Rattle.rules.specs.Doc.Headers.{ftyp, meta, iinf, infe, iloc, Header, headerAt, bodySize, Box, boxWith, isKind, is, addressable, whole, skips}
+use Rattle.rules.specs.Doc.Headers.{ftyp, meta, iinf, infe, iloc, Header, headerAt, bodySize, Box, boxWith, isKind, is, addressable, whole, skips, announced, boxAt, childAt}
 use Rattle.rules.specs.Doc.Levels.{Level, tested, said, boxStep, levelStep, boxes, countedBoxes, inside}
 use Rattle.rules.specs.Doc.Ftyp.{known, brandsFrom, brandTest, topFits, topLevel, top, stopped}
 use Rattle.rules.specs.Doc.Meta.{openedIn, opened, metaTest}
@@ -21,6 +21,7 @@ use Rattle.rules.specs.Doc.Iinf.{itemIdSize, item, itemTest, countSize, 
 use Rattle.rules.specs.Doc.Iloc.{Sizes, Table, idSize, tableOf, inFile, Entry, entryAt, Extent, extentAt, extentMet, extents, isWanted, entryEnd, extentsTest, entryNext, entryMet, entries, chosenIn, chosen}
 use Rattle.rules.specs.Doc.Join.{reach, inImage, inIdat, lies, byMethod}
 use Rattle.rules.specs.Doc.Block.{bytesAt, blockAfter, block}
+use Rattle.rules.specs.Laws.Rows.{by-test}
 use Rattle.rules.specs.Laws.Gather.{onFine}
 use Rattle.rules.specs.Laws.Lent.{block-lent}
 use Rattle.rules.specs.Doc.Answers.{answerWith}
@@ -48,8 +49,7 @@ given-numbered none n p = with-number p
 given-numbered (some x) n p = went
 
 either : {A : Type 0} (t : Bool) (x y : Outcome A) → Numbered x → Numbered y → Numbered (if t then x else y)
-either true x y p q = p
-either false x y p q = q
+either t x y p q = by-test Numbered t (λ e. p) (λ e. q)
 
 -- ---- Fields and boxes
 
@@ -61,7 +61,7 @@ sized-numbered : (s : List ℕ) (at w n : ℕ) → InTable n → Numbered (sized
 unfolding sized
 sized-numbered s at w n p = row _ _ (require-numbered (eqb w 0 || eqb w 4 || eqb w 8) n p) (λ u. field-numbered s at w)
 
-version-numbered : (s : List ℕ) (at : ℕ) → Numbered (version s at)
+pub version-numbered : (s : List ℕ) (at : ℕ) → Numbered (version s at)
 unfolding version
 version-numbered s at = row _ _ (field-numbered s at 4) (λ v. went)
 
@@ -74,6 +74,12 @@ size-numbered n h =
 whole-numbered : (k n : ℕ) (b : Box) → InTable k → Numbered (whole k n b)
 unfolding whole
 whole-numbered k n b p = row _ _ (require-numbered (addressable (sizeOf (b .body))) 27 tt) (λ u. require-numbered (leb (b .body .to) n) k p)
+
+pub child-numbered : (s : List ℕ) (at : ℕ) → Numbered (childAt s at)
+unfolding childAt boxAt announced
+child-numbered s at =
+    row _ _ (row _ _ (given-numbered (headerAt s at) 3 tt) (λ h. row _ _ (size-numbered (length s) h) (λ size. went)))
+    (λ b. row _ _ (whole-numbered 3 (length s) b tt) (λ u. went))
 
 -- ---- Walks
 
@@ -133,11 +139,7 @@ module _ (l : Level) (p : NumberedLevel l) (s : List ℕ) where
 
   level-numbered : (at : ℕ) → NumberedStep (levelStep l s at)
   unfolding levelStep
-  level-numbered at = go (leb (length s) at)
-    where
-      go : (t : Bool) → NumberedStep (if t then over else boxStep l s (headerAt s at))
-      go true = at-end
-      go false = box-numbered (headerAt s at)
+  level-numbered at = by-test NumberedStep (leb (length s) at) (λ e. at-end) (λ e. box-numbered (headerAt s at))
 
   boxes-numbered : (at : ℕ) → NumberedEnd (boxes l s at .end)
   unfolding boxes
@@ -321,7 +323,7 @@ pub not-given : (n k : ℕ) → Numbered {A = List ℕ} (refused n) → n ≡ k 
 not-given n k (with-number p) e out = out (rw e at p)
 
 -- none is above 27
-pub refusal-below : (n : ℕ) → Numbered {A = List ℕ} (refused n) → n ≤ 27
+pub refusal-below : {A : Type 0} (n : ℕ) → Numbered {A = A} (refused n) → n ≤ 27
 refusal-below n (with-number p) = leb-true n 27 (go (leb 1 n) (leb n 27) p)
   where
     go : (a b : Bool) → T (a && b) → b ≡ true

@@ -3,7 +3,7 @@ use mathlib.Core.Path.{_≡_, refl}
 use Prim.Native.Nat.{ℕ}
 use native.Mathlib.Omega.{arith}
 use mathlib.Core.Bool.{Bool, true, false}
-use Rattle.rules.specs.Doc.Outcomes.{Outcome, fine, refused, _>>=_, require}
+use Rattle.rules.specs.Doc.Outcomes.{if_then_else_, Outcome, fine, refused, _>>=_, require}
 
 pub apart : {A : Type 0} {a : A} {n : ℕ} → fine a ≡ refused n → ⊥
 apart e = let z : _≡_ {A = ℕ} 0 1 = cc in omega arith
@@ -29,3 +29,8 @@ bind-known (refused n) e = refl
 
 pub bind-cong : {A B : Type 0} {f g : A → Outcome B} (o : Outcome A) → ((x : A) → f x ≡ g x) → (o >>= f) ≡ (o >>= g)
 bind-cong o e = bind-known o (λ x f. e x)
+
+-- what holds of one thing or another, by a test
+pub by-test : {A : Type 0} (P : A → Type 0) (t : Bool) {x y : A} → (t ≡ true → P x) → (t ≡ false → P y) → P (if t then x else y)
+by-test P true p q = p refl
+by-test P false p q = q refl

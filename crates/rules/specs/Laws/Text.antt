@@ -60,13 +60,18 @@ digits-more b k n h ih = go (ltb n 10) refl
     go true e = omega (arith, one-digit n (ltb-true n 10 e))
     go false e = omega (arith, decimal-longer n (ltb-false n 10 e), ih (omega arith))
 
+pub two-digits : (n : ℕ) → n < 100 → length (decimal n) ≤ 2
+two-digits n h = digits-more 10 0 n h λ h. omega (arith, one-digit (n / 10) h)
+
 pub five-digits : (n : ℕ) → n < 100000 → length (decimal n) ≤ 5
 five-digits n h =
     digits-more 10000 3 n h λ h.
     digits-more 1000 2 (n / 10) h λ h.
     digits-more 100 1 (n / 10 / 10) h λ h.
-    digits-more 10 0 (n / 10 / 10 / 10) h λ h.
-    omega (arith, one-digit (n / 10 / 10 / 10 / 10) h)
+    two-digits (n / 10 / 10 / 10) h
+
+pub hex-longer : (k n : ℕ) → (k ≡ 0 → ⊥) → length (hex k n) ≡ length (hex (k - 1) (n / 16)) + 1
+hex-longer k n h = rw (hex-more k n h, length-append (hex (k - 1) (n / 16)) (digit (n % 16) ∷ []))
 
 pub hex-length : (k n : ℕ) → length (hex k n) ≡ k
 unfolding hex

@@ -1,10 +1,10 @@
 -- The count of digits falls: the higher ones are written first, and then the last.
-use Prim.Native.Nat.{ℕ, _-_, _/_, _<_}
+use Prim.Native.Nat.{ℕ, _<_}
 use native.Mathlib.Omega.{arith}
 use borrow.Author.Needs.{needs}
 use borrow.Fn.Kinds.{In}
 use borrow.Fn.PlainCycle.{Measures, is, falls, and}
-use Rattle.rules.specs.Laws.Text.{hex-none, hex-more, hex-length}
+use Rattle.rules.specs.Laws.Text.{hex-none, hex-more, hex-longer}
 use Rattle.text.specs.Wrote.{wrote-none, wrote-then}
 use Rattle.text.proofs.put_hex.Reads as reads
 use Rattle.text.proofs.put_hex.Kinds as kinds
@@ -38,7 +38,10 @@ module _ (t : ℕ) where
   sub-put-hex c = search needs
 
   put-hex-requires : lts.Need-put-hex-requires called here reads.Post
-  put-hex-requires c κs = (omega arith, omega (arith, c .before .before .before .pre .1))
+  put-hex-requires c κs =
+      let start = c .before .before .before in
+      let more = hex-longer (start .args .k) (start .args .n) (c .before .if1 .left) in
+      (omega arith, omega (arith, start .pre .1))
 
   digit-requires : lts.Need-digit-requires called here reads.Post
   digit-requires c κs = search needs
@@ -47,7 +50,7 @@ module _ (t : ℕ) where
   put-byte-requires c κs =
       let higher = c .before .before .before .before in
       let start = higher .before .before .before .before in
-      let digits = hex-length (start .args .k - 1) (start .args .n / 16) in
+      let more = hex-longer (start .args .k) (start .args .n) (higher .before .before .if1 .left) in
       omega (arith, start .pre .1, higher .put-hex .ensures .place)
 
   same-length : lts.Need-same-length called here reads.Post
