@@ -1,12 +1,12 @@
 -- What it is to write bytes into a buffer from a position on, and that texts written one behind the other are one text.
-use mathlib.Core.Path.{_≡_, refl, sym, ap, _∙_}
-use Prim.Native.Nat.{ℕ, suc, _+_, _^_, _<_}
+use mathlib.Core.Path.{_≡_, refl, sym, _∙_}
+use Prim.Native.Nat.{ℕ, _+_, _^_, _<_}
 use native.Mathlib.Omega.{arith}
 use native.Mathlib.Numerals.{add-one}
-use native.Mathlib.Nat.{add-zero}
 use mathlib.Core.List.{List, [], _∷_, _++_}
-use lib.ListN.{length, take, getD, set, length-append}
+use lib.ListN.{length, take, getD, length-append}
 use lib.Seq.{take-suc, sets}
+use Rattle.rules.specs.Laws.Over.{over-append}
 
 -- `before` and `after` are the buffer, `end` is the place behind the bytes. Where there is no room, `sets` leaves them out; the place counts on.
 pub record Wrote (bytes : List ℕ) (at : ℕ) (before : List ℕ) (end : ℕ) (after : List ℕ) : Type 0 where
@@ -16,18 +16,12 @@ pub record Wrote (bytes : List ℕ) (at : ℕ) (before : List ℕ) (end : ℕ) (
 pub wrote-none : (at : ℕ) (out : List ℕ) → Wrote [] at out at out
 wrote-none at out = record { place = omega arith; buffer = refl }
 
-sets-append : (a b out : List ℕ) (at : ℕ) → sets out at (a ++ b) ≡ sets (sets out at a) (at + length a) b
-sets-append [] b out at = rw (add-zero at)
-sets-append (x ∷ a) b out at =
-    let e : suc at + length a ≡ at + suc (length a) = omega arith in
-    rw (← e) (sets-append a b (set out at x) (suc at))
-
 pub wrote-then : {a b : List ℕ} {at m r : ℕ} {before between after : List ℕ}
     → Wrote a at before m between → Wrote b m between r after → Wrote (a ++ b) at before r after
 wrote-then {a} {b} {at} {m} {r} {before} p q =
     record {
       place = rw (length-append a b) (omega (arith, p .place, q .place));
-      buffer = q .buffer ∙ rw (p .place, p .buffer) (sym (sets-append a b before at));
+      buffer = q .buffer ∙ rw (p .place, p .buffer) (sym (over-append a b before at));
     }
 
 -- where the place behind two texts can be told, so can that behind the first, and that behind the second from there

@@ -1,7 +1,7 @@
 -- Both lengths are tested before the parts of the two buffers are lent; the second test of a `||` comes as an equation of its flag.
 use borrow.Author.Needs.{needs}
 use borrow.Author.Tests.{ltb-false}
-use Rattle.answers.specs.Parts.{first}
+use Rattle.rules.specs.Laws.Numbers.{first-part}
 use Rattle.answers.proofs.one.Statement.{statement}
 use Rattle.answers.proofs.one.Tie as tie
 
@@ -60,13 +60,13 @@ slice-relend-prefix-whole : tie.Need-slice-relend-prefix-whole
 slice-relend-prefix-whole c = search needs
 
 slice-aggregate-whole : tie.Need-slice-aggregate-whole
-slice-aggregate-whole c = search first
+slice-aggregate-whole c = search first-part
 
 slice-relend-prefix-whole-2 : tie.Need-slice-relend-prefix-whole-2
 slice-relend-prefix-whole-2 c = search needs
 
 slice-aggregate-whole-2 : tie.Need-slice-aggregate-whole-2
-slice-aggregate-whole-2 c = search (first, ltb-false)
+slice-aggregate-whole-2 c = search (first-part, ltb-false)
 
 whole-requires : tie.Need-whole-requires
 whole-requires c κs = search needs

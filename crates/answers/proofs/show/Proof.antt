@@ -1,11 +1,11 @@
 -- As many bytes are shown as the caller counts in the text.
 use borrow.Author.Needs.{needs}
-use Rattle.answers.specs.Parts.{first}
+use Rattle.rules.specs.Laws.Numbers.{first-part}
 use Rattle.answers.proofs.show.Statement.{statement}
 use Rattle.answers.proofs.show.Tie as tie
 
 slice-aggregate-write-all : tie.Need-slice-aggregate-write-all
-slice-aggregate-write-all c = search first
+slice-aggregate-write-all c = search first-part
 
 write-all-requires : tie.Need-write-all-requires
 write-all-requires c κs = search needs

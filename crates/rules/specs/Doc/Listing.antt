@@ -3,7 +3,7 @@ use Prim.Native.Nat.{ℕ, zero, suc, _+_, _-_}
 use Prim.Native.String.{String}
 use mathlib.Core.Option.{Option, none, some}
 use mathlib.Core.List.{List, [], _∷_, _++_}
-use lib.ListN.{length, take}
+use lib.ListN.{length, take, drop}
 use lib.Dec.{leb, ltb}
 use Rattle.rules.specs.Doc.Outcomes.{if_then_else_, Outcome, fine, refused, _>>=_}
 use Rattle.rules.specs.Doc.Lists.{any}
@@ -129,3 +129,7 @@ longest = 65536
 -- The listing of an image. Longer input gives only `end=65536 answer=29`.
 unfoldable pub listing : List ℕ → List ℕ
 listing image = if ltb longest (length image) then lastText longest 29 else textOf (length image) (listRun deepest image 0)
+
+-- A buffer after the text went to its front: as much of the text as it holds, and behind that what it held before.
+unfoldable pub printed : List ℕ → List ℕ → List ℕ
+printed text out = take (length out) text ++ drop (length text) out

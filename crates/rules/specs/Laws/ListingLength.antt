@@ -5,7 +5,7 @@ use native.Mathlib.Omega.{arith}
 use mathlib.Core.Option.{Option}
 use mathlib.Core.List.{List, _++_}
 use lib.ListN.{length, take, drop, length-append}
-use lib.Seq.{length-take-le, sets}
+use lib.Seq.{length-take-le, take-all}
 use lib.Dec.{leb, ltb}
 use borrow.Author.Tests.{ltb-false, leb-false}
 use Rattle.rules.specs.Doc.Outcomes.{Outcome, fine, refused, _>>=_}
@@ -14,10 +14,9 @@ use Rattle.rules.specs.Doc.Bytes.{sizeOf, bytesIn, version}
 use Rattle.rules.specs.Doc.Headers.{meta, iinf, Box, is, childAt}
 use Rattle.rules.specs.Doc.Iinf.{countSize}
 use Rattle.rules.specs.Doc.Listing.{lineOf, Listing, finished, fault, line, _then_, holders, behind, behindCount, opening, met, rowOf, childrenOf, deepest}
-use Rattle.rules.specs.Doc.Listing.{depthOver, openBox, listRun, frontText, lineText, lastText, textOf, longest, listing}
+use Rattle.rules.specs.Doc.Listing.{depthOver, openBox, listRun, frontText, lineText, lastText, textOf, longest, listing, printed}
 use Rattle.rules.specs.Laws.Rows.{by-test}
 use Rattle.rules.specs.Laws.Headers.{Inside, child-inside}
-use Rattle.rules.specs.Laws.Over.{over-room}
 use Rattle.rules.specs.Laws.Refusals.{Numbered, version-numbered, child-numbered, refusal-below}
 use Rattle.rules.specs.Laws.Text.{one-digit, two-digits, five-digits, hex-length}
 
@@ -125,5 +124,6 @@ listing-length image =
     omega (arith, text-length (length image) (length image) (listRun deepest image 0) h (run-short deepest image h 0 (length image) (omega arith))))
 
 -- a buffer of that length holds the whole text
-pub always-room : (image out : List ℕ) → longestText ≤ length out → sets out 0 (listing image) ≡ listing image ++ drop (length (listing image)) out
-always-room image out h = over-room (listing image) out (omega (arith, listing-length image))
+pub always-room : (image out : List ℕ) → longestText ≤ length out → printed (listing image) out ≡ listing image ++ drop (length (listing image)) out
+unfolding printed
+always-room image out h = rw (take-all (length out) (listing image) (omega (arith, listing-length image)))

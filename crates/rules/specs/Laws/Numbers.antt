@@ -1,10 +1,11 @@
 -- Laws of numbers and fields.
-use mathlib.Core.Path.{_≡_}
+use mathlib.Core.Path.{_≡_, sym}
 use mathlib.Core.List.{List}
 use Prim.Native.Nat.{ℕ, zero, suc, _+_, _*_, _^_, _≤_, _<_}
 use native.Mathlib.Nat.{pow-suc, pow-le-pow-right, lt-of-lt-of-le, le-of-suc-le-suc}
 use native.Mathlib.Omega.{arith}
-use lib.ListN.{length, length-take, length-drop}
+use lib.ListN.{length, take, length-take, length-drop}
+use lib.Seq.{length-take-le}
 use lib.Dec.{lit<}
 use mir.Syntax.{w8}
 use mir.Val.{Fits}
@@ -50,3 +51,7 @@ part-length s p h = simp (length-take, length-drop) (omega arith)
 pub bytes-in : (s : List ℕ) (p : Span) → p .to ≤ length s → bytesIn s p ≡ part s (p .from) (sizeOf p)
 unfolding bytesIn
 bytes-in s p h = rw (le-leb (p .to) (length s) h)
+
+-- n bytes are lent from the front where there are as many
+pub first-part : (n : ℕ) (s : List ℕ) → n ≤ length s → n ≡ length (take n s)
+first-part n s h = sym (length-take-le n s h)

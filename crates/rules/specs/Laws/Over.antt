@@ -1,12 +1,12 @@
 -- Bytes laid over an output, as many as there is room for (`sets` of the kit): what a copy over several parts follows.
-use mathlib.Core.Path.{_≡_, refl, sym, _∙_}
+use mathlib.Core.Path.{_≡_, refl, sym, ap, _∙_}
 use Prim.Native.Nat.{ℕ, zero, suc, _+_, _-_, _≤_, _<_}
 use native.Mathlib.Omega.{arith}
 use native.Mathlib.Numerals.{add-one}
-use native.Mathlib.Nat.{zero-add, zero-sub, sub-zero}
+use native.Mathlib.Nat.{add-zero, zero-sub, sub-zero}
 use mathlib.Core.List.{List, [], _∷_, _++_}
-use lib.ListN.{length, drop, getD, set}
-use lib.Seq.{drop-cons, drop-nil, set-out, sets, sets-eq}
+use lib.ListN.{length, take, drop, getD, set}
+use lib.Seq.{take-all, take-nil, drop-cons, drop-nil, set-out, sets}
 use Rattle.rules.specs.Doc.Outcomes.{Outcome}
 use Rattle.rules.specs.Doc.Lists.{each}
 use Rattle.rules.specs.Doc.Bytes.{numberAt, Span}
@@ -23,9 +23,26 @@ pub over-more : (out : List ℕ) (at i : ℕ) (s rest : List ℕ) → i < length
     → sets (set out at (getD s i 0)) (at + 1) (drop (i + 1) s ++ rest) ≡ sets out at (drop i s ++ rest)
 over-more out at i s rest h = rw (add-one at, drop-cons s i 0 h, add-one i)
 
--- where there is room for all
+-- two parts, one behind the other
+pub over-append : (a b out : List ℕ) (at : ℕ) → sets out at (a ++ b) ≡ sets (sets out at a) (at + length a) b
+over-append [] b out at = rw (add-zero at)
+over-append (x ∷ a) b out at =
+    let e : suc at + length a ≡ at + suc (length a) = omega arith in
+    rw (← e) (over-append a b (set out at x) (suc at))
+
+over-behind : (x : ℕ) (out : List ℕ) (at : ℕ) (bs : List ℕ) → sets (x ∷ out) (suc at) bs ≡ x ∷ sets out at bs
+over-behind x out at [] = refl
+over-behind x out at (b ∷ bs) = over-behind x (set out at b) (suc at) bs
+
+-- from the front on
+pub over-front : (bs out : List ℕ) → sets out 0 bs ≡ take (length out) bs ++ drop (length bs) out
+over-front [] out = rw (take-nil (length out))
+over-front (b ∷ bs) [] = over-full [] 0 (b ∷ bs) (omega arith)
+over-front (b ∷ bs) (o ∷ out) = over-behind b out 0 bs ∙ ap (λ (l : List ℕ). b ∷ l) (over-front bs out)
+
+-- the same where there is room for all
 pub over-room : (bs out : List ℕ) → length bs ≤ length out → sets out 0 bs ≡ bs ++ drop (length bs) out
-over-room bs out h = rw (zero-add (length bs)) at (sets-eq bs out 0 (omega arith))
+over-room bs out h = rw (take-all (length out) bs h) at (over-front bs out)
 
 -- what is skipped of two parts: of the second, what the first was too short for
 drop-append : (n : ℕ) (a b : List ℕ) → drop n (a ++ b) ≡ drop n a ++ drop (n - length a) b

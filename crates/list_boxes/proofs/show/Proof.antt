@@ -1,0 +1,17 @@
+-- As many bytes are shown as the caller counts in the text.
+use borrow.Author.Needs.{needs}
+use Rattle.rules.specs.Laws.Numbers.{first-part}
+use Rattle.list_boxes.proofs.show.Statement.{statement}
+use Rattle.list_boxes.proofs.show.Tie as tie
+
+slice-aggregate-write-all : tie.Need-slice-aggregate-write-all
+slice-aggregate-write-all c = search first-part
+
+write-all-requires : tie.Need-write-all-requires
+write-all-requires c κs = search needs
+
+returns : tie.Need-returns
+returns c = search needs
+
+pub show-spec : {M : Type 1} → statement M
+show-spec = tie.close (tie.spec slice-aggregate-write-all write-all-requires returns)

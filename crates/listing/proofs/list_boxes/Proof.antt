@@ -1,0 +1,95 @@
+-- The lines, and behind them the last line, by how the lines ended; or the last line alone.
+use native.Mathlib.Omega.{arith}
+use borrow.Author.Needs.{needs}
+use Rattle.rules.specs.Doc.Listing.{textOf}
+use Rattle.listing.specs.Whole.{from-front, too-long, room-listing, room-lines, room-last, whole}
+use Rattle.listing.proofs.list_boxes.Statement.{statement}
+use Rattle.listing.proofs.list_boxes.Tie as tie
+
+number-requires : tie.Need-number-requires
+number-requires c κs = search needs
+
+cast-put-last : tie.Need-cast-put-last
+cast-put-last c = search needs
+
+put-last-requires : tie.Need-put-last-requires
+put-last-requires c κs =
+    let image = c .before .before .before .before .before .args .image .now in
+    rw (c .before .number .ensures, ← too-long image (c .before .before .if1 .taken)) (room-listing image)
+
+same-length : tie.Need-same-length
+same-length c = search needs
+
+returns : tie.Need-returns
+returns c =
+    rw (too-long (c .before .before .before .before .before .before .before .before .args .image .now) (c .before .before .before .before .before .if1 .taken), ← c .before .before .before .before .number .ensures) (from-front (c .before .before .put-last .ensures))
+
+list-run-requires : tie.Need-list-run-requires
+list-run-requires c κs = (omega arith, room-lines (c .before .before .before .before .args .image .now) (c .before .if1 .left))
+
+enum-known-text : tie.Need-enum-known-text
+enum-known-text c = search needs
+
+put-last-requires-2 : tie.Need-put-last-requires-2
+unfolding textOf
+put-last-requires-2 c κs =
+    let listed = c .before .before .before .before .before .before in
+    let lines = rw (c .before .before .text .given .1) at (listed .list-run .ensures) in
+    room-last (listed .before .before .before .before .before .args .image .now) (listed .before .before .if1 .left) lines
+
+enum-known-text-2 : tie.Need-enum-known-text-2
+enum-known-text-2 c = search needs
+
+number-requires-2 : tie.Need-number-requires-2
+number-requires-2 c κs = search needs
+
+cast-put-last-2 : tie.Need-cast-put-last-2
+cast-put-last-2 c = search needs
+
+put-last-requires-3 : tie.Need-put-last-requires-3
+unfolding textOf
+put-last-requires-3 c κs =
+    let listed = c .before .before .before .before .before .before .before in
+    let lines = rw (c .before .before .before .text2 .given .1) at (listed .list-run .ensures) in
+    rw (c .before .number2 .ensures) (room-last (listed .before .before .before .before .before .args .image .now) (listed .before .before .if1 .left) lines)
+
+same-length-2 : tie.Need-same-length-2
+same-length-2 c = search needs
+
+returns-2 : tie.Need-returns-2
+unfolding textOf
+returns-2 c =
+    let listed = c .before .before .before .before .before .before .before .before .before in
+    let lines = rw (c .before .before .before .before .before .text .given .1) at (listed .list-run .ensures) in
+    whole (listed .before .before .before .before .before .args .image .now) (listed .before .before .if1 .left) lines (c .before .before .put-last2 .ensures)
+
+same-length-3 : tie.Need-same-length-3
+same-length-3 c = search needs
+
+returns-3 : tie.Need-returns-3
+unfolding textOf
+returns-3 c =
+    let listed = c .before .before .before .before .before .before .before .before .before .before in
+    let lines = rw (c .before .before .before .before .before .before .text2 .given .1) at (listed .list-run .ensures) in
+    whole (listed .before .before .before .before .before .args .image .now) (listed .before .before .if1 .left) lines (rw (c .before .before .before .before .number2 .ensures) at (c .before .before .put-last3 .ensures))
+
+pub list-boxes-spec : {M : Type 1} → statement M
+list-boxes-spec =
+    tie.close
+    (tie.spec
+    number-requires
+    cast-put-last
+    put-last-requires
+    same-length
+    returns
+    list-run-requires
+    enum-known-text
+    put-last-requires-2
+    enum-known-text-2
+    number-requires-2
+    cast-put-last-2
+    put-last-requires-3
+    same-length-2
+    returns-2
+    same-length-3
+    returns-3)

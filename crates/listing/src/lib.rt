@@ -1,0 +1,136 @@
+// The listing of an image's boxes, as text in a lent buffer: one function lists a run of boxes, the other opens one box, and they call each other.
+mod line;
+mod opening;
+
+ghost use mathlib.Core.Path.{_≡_};
+ghost use mathlib.Core.List.{_++_};
+ghost use Prim.Native.Nat.{_+_, _^_, _≤_, _<_};
+ghost use lib.ListN.{length, drop};
+ghost use Rattle.rules.specs.Doc.Listing.{openBox, listRun, listing, printed};
+ghost use Rattle.rules.specs.Laws.Listing.{linesText};
+ghost use Rattle.listing.specs.Told.{boxIn};
+ghost use Rattle.listing.specs.Lines.{Lines};
+use boxes::Child;
+use boxes::Header;
+use boxes::Refusal;
+use line::put_last;
+use line::put_line;
+use opening::Inner;
+use opening::opening;
+
+// The longest image that is listed.
+pub const LONGEST: usize = 65536;
+
+// Seven bytes of text for each byte of an image, and the last line: no listing is longer.
+pub const LONGEST_TEXT: usize = 7 * LONGEST + 20;
+
+// Boxes at this depth aren't opened.
+const DEEPEST: usize = 8;
+
+// A box: where it starts, its type, and where its body is.
+pub(crate) struct Found {
+    start: usize,
+    kind: u32,
+    from: usize,
+    to: usize,
+}
+
+// Where the lines end; and, if not all was read, the start of the box that couldn't be read or opened, and why.
+pub(crate) enum Listed {
+    Whole(usize),
+    Fault {
+        text: usize,
+        at: usize,
+        answer: Refusal,
+    },
+}
+
+// The boxes from a position to the end of `s`, with so many levels under them that may be opened.
+fn list_run(s: &[u8], from: usize, levels: usize, out: &mut [u8], text: usize) -> Listed
+    requires { ⌜ levels ≤ 8 ⌝ }
+    requires { ⌜ text + length (linesText (listRun levels (now s) from)) < 2 ^ 64 ⌝ }
+    ensures { λ r. ⌜ Lines (listRun levels (now (s .entry)) from) text (now (out .entry)) r (now (out .exit)) ⌝ }
+{
+    let mut at = from;
+    let mut end = text;
+    while at < s.len() {
+        match boxes::child_box(s, Header::read(s, at)) {
+            Child::Refused(e) => {
+                return Listed::Fault {
+                    text: end,
+                    at: at,
+                    answer: e,
+                };
+            }
+            Child::Whole { kind, from, to } => {
+                let found = Found {
+                    start: at,
+                    kind: kind,
+                    from: from,
+                    to: to,
+                };
+                let behind = put_line(DEEPEST - levels, found, out, end);
+                match open_box(s, found, levels, out, behind) {
+                    Listed::Fault { text, at, answer } => {
+                        return Listed::Fault {
+                            text: text,
+                            at: at,
+                            answer: answer,
+                        };
+                    }
+                    Listed::Whole(next) => {
+                        end = next;
+                        at = to;
+                    }
+                }
+            }
+        }
+    }
+    Listed::Whole(end)
+}
+
+// What stands in one box. The bytes around its children end where it does, so that places still count from the start of the image.
+fn open_box(s: &[u8], found: Found, levels: usize, out: &mut [u8], text: usize) -> Listed
+    requires { ⌜ (found .from ≤ found .to) × (found .to ≤ length (now s)) ⌝ }
+    requires { ⌜ levels ≤ 8 ⌝ }
+    requires { ⌜ text + length (linesText (openBox levels (now s) (boxIn found))) < 2 ^ 64 ⌝ }
+    ensures { λ r. ⌜ Lines (openBox levels (now (s .entry)) (boxIn found)) text (now (out .entry)) r (now (out .exit)) ⌝ }
+{
+    if levels == 0 {
+        return Listed::Whole(text);
+    }
+    match opening(s, found) {
+        Inner::Leaf => Listed::Whole(text),
+        Inner::Refused(e) => Listed::Fault {
+            text: text,
+            at: found.start,
+            answer: e,
+        },
+        Inner::Children(from) => {
+            let to = found.to;
+            list_run(&s[..to], from, levels - 1, out, text)
+        }
+    }
+}
+
+// The listing of an image goes to the front of `out`, as much of it as there is room for. The answer is the length of all of it.
+pub fn list_boxes(image: &[u8], out: &mut [u8]) -> usize
+    ensures { λ r. ⌜ r ≡ length (listing (now (image .entry))) ⌝ }
+    ensures { λ r. ⌜ now (out .exit) ≡ printed (listing (now (image .entry))) (now (out .entry)) ⌝ }
+{
+    if image.len() > LONGEST {
+        return put_last(LONGEST, Refusal::ListingTooLong.number() as usize, out, 0);
+    }
+    match list_run(image, 0, DEEPEST, out, 0) {
+        Listed::Whole(text) => put_last(image.len(), 0, out, text),
+        Listed::Fault { text, at, answer } => put_last(at, answer.number() as usize, out, text),
+    }
+}
+
+// The same with a buffer that is long enough for every image: nothing is ever cut.
+pub fn list_all(image: &[u8], out: &mut [u8; LONGEST_TEXT]) -> usize
+    ensures { λ r. ⌜ r ≡ length (listing (now (image .entry))) ⌝ }
+    ensures { λ r. ⌜ now (out .exit) ≡ listing (now (image .entry)) ++ drop (length (listing (now (image .entry)))) (now (out .entry)) ⌝ }
+{
+    list_boxes(image, out)
+}
