@@ -1,9 +1,9 @@
 -- What it is to write the lines of a listing, and how far a run has come with it.
-use mathlib.Core.Path.{_≡_, refl, sym, ap, _∙_}
+use mathlib.Core.Path.{_≡_, refl, sym, _∙_}
 use Prim.Native.Nat.{ℕ, _+_, _^_, _<_}
 use native.Mathlib.Omega.{arith}
 use mathlib.Core.List.{List, [], _++_, append-assoc, append-nil}
-use lib.ListN.{length, length-append}
+use lib.ListN.{length}
 use Rattle.rules.specs.Doc.Listing.{Line, Listing, finished, fault, line, _then_, lineText}
 use Rattle.rules.specs.Laws.Listing.{linesText, ending, then-ending, then-lines, fault-lines, then-longer}
 use Rattle.boxes.specs.Told.{number}

@@ -4,6 +4,7 @@ pub mod Numbers
 pub mod Fields
 pub mod Headers
 pub mod Decision
+pub mod BoxRow
 pub mod Unroll
 pub mod Fold
 pub mod Last

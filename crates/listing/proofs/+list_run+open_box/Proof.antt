@@ -8,7 +8,7 @@ use lib.Seq.{length-take-le}
 use borrow.Author.Needs.{needs}
 use borrow.Fn.Kinds.{In}
 use borrow.Fn.PlainCycle.{Measures, is, falls, and}
-use Rattle.rules.specs.Doc.Listing.{openBox, listRun}
+use Rattle.rules.specs.Doc.Listing.{listRun}
 use Rattle.rules.specs.Laws.Headers.{child-inside}
 use Rattle.rules.specs.Laws.Listing.{run-done, children-ahead}
 use Rattle.boxes.specs.Loops.{WholeBox, box-refused, box-whole}

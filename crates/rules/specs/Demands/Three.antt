@@ -1,6 +1,6 @@
 -- Demand 3: pictures have no say. Two images of one length that agree on the bytes consulted for the first get the same answer.
 use mathlib.Core.Path.{_≡_, refl, sym, ap, ap₂, _∙_}
-use Prim.Native.Nat.{ℕ, suc, _+_, _-_, _/_, _^_, _≤_, min}
+use Prim.Native.Nat.{ℕ, suc, _+_, _/_, _^_, _≤_, min}
 use native.Mathlib.Omega.{arith}
 use native.Mathlib.Decide.{decLe}
 use mathlib.Core.Bool.{Bool, true, false}

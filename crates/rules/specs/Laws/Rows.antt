@@ -3,7 +3,8 @@ use mathlib.Core.Path.{_≡_, refl}
 use Prim.Native.Nat.{ℕ}
 use native.Mathlib.Omega.{arith}
 use mathlib.Core.Bool.{Bool, true, false}
-use Rattle.rules.specs.Doc.Outcomes.{if_then_else_, Outcome, fine, refused, _>>=_, require}
+use mathlib.Core.Option.{Option, none, some}
+use Rattle.rules.specs.Doc.Outcomes.{if_then_else_, Outcome, fine, refused, _>>=_, require, given}
 
 pub apart : {A : Type 0} {a : A} {n : ℕ} → fine a ≡ refused n → ⊥
 apart e = let z : _≡_ {A = ℕ} 0 1 = cc in omega arith
@@ -16,6 +17,10 @@ bind-fine (refused n) f e = absurd (apart e)
 pub required : (t : Bool) (n : ℕ) → fine tt ≡ require t n → t ≡ true
 required true n e = refl
 required false n e = absurd (apart e)
+
+pub there : {A : Type 0} {x : A} (o : Option A) (n : ℕ) → fine x ≡ given o n → o ≡ some x
+there none n e = absurd (apart e)
+there (some y) n e = cc
 
 -- steps in a row are one row, however they are grouped
 pub bind-assoc : {A B C : Type 0} (o : Outcome A) (f : A → Outcome B) (g : B → Outcome C) → ((o >>= f) >>= g) ≡ (o >>= λ x. f x >>= g)
