@@ -2,3 +2,4 @@ pub mod Told
 pub mod Lines
 pub mod Turns
 pub mod Whole
+pub mod Unique

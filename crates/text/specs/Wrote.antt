@@ -39,8 +39,3 @@ room-then {at} {m} {a} p b h = let e = length-append a b in omega (arith, p .pla
 pub wrote-more : (s : List ℕ) {i at m r : ℕ} {before between after : List ℕ} → i < length s
     → Wrote (take i s) at before m between → Wrote (getD s i 0 ∷ []) m between r after → Wrote (take (i + 1) s) at before r after
 wrote-more s {i} h p q = rw (add-one i, take-suc s i 0 h) (wrote-then p q)
-
--- no two outcomes are the same text written
-pub wrote-one : {bytes : List ℕ} {at : ℕ} {before : List ℕ} {r r′ : ℕ} {after after′ : List ℕ}
-    → Wrote bytes at before r after → Wrote bytes at before r′ after′ → (r ≡ r′) × (after ≡ after′)
-wrote-one p q = (p .place ∙ sym (q .place), p .buffer ∙ sym (q .buffer))

@@ -1,6 +1,6 @@
 -- Two calls that make each other's bytes fewer: a run's box has fewer than the run, and a run in a box no more than the box. The loop: of the
 -- lines of the whole run those of the boxes from `at` on are left.
-use mathlib.Core.Path.{_≡_, refl, sym, _∙_}
+use mathlib.Core.Path.{_≡_, refl, _∙_}
 use Prim.Native.Nat.{ℕ, _+_, _-_, _*_, _≤_, _<_}
 use native.Mathlib.Omega.{arith}
 use lib.ListN.{length, take}
@@ -9,6 +9,7 @@ use borrow.Author.Needs.{needs}
 use borrow.Fn.Kinds.{In}
 use borrow.Fn.PlainCycle.{Measures, is, falls, and}
 use Rattle.rules.specs.Doc.Listing.{listRun}
+use Rattle.rules.specs.Laws.Numbers.{first-part}
 use Rattle.rules.specs.Laws.Headers.{child-inside}
 use Rattle.rules.specs.Laws.Listing.{run-done, children-ahead}
 use Rattle.boxes.specs.Loops.{WholeBox, box-refused, box-whole}
@@ -188,9 +189,7 @@ module _ (t : ℕ) where
   one-enum-known-from c = search needs
 
   one-slice-aggregate-list-run : one.Need-slice-aggregate-list-run one-calls one-here open-box.Post
-  one-slice-aggregate-list-run c =
-      let start = c .before .before .before .before .before .before .before .before in
-      sym (length-take-le (start .args .found .to) (start .args .s .now) (start .pre .1 .0 .1))
+  one-slice-aggregate-list-run c = search first-part
 
   one-sub-list-run : one.Need-sub-list-run one-calls one-here open-box.Post
   one-sub-list-run c = search needs

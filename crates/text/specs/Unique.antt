@@ -1,0 +1,10 @@
+-- No two outcomes, place and buffer together, are the same text written: so each contract of this crate determines both.
+use mathlib.Core.Path.{_≡_, sym, _∙_}
+use Prim.Native.Nat.{ℕ}
+use mathlib.Core.List.{List}
+use Rattle.text.specs.Wrote.{Wrote}
+
+-- of `put`, `put_decimal` and `put_hex`
+pub wrote-one : {bytes : List ℕ} {at : ℕ} {before : List ℕ} {r r′ : ℕ} {after after′ : List ℕ}
+    → Wrote bytes at before r after → Wrote bytes at before r′ after′ → (r ≡ r′) × (after ≡ after′)
+wrote-one p q = (p .place ∙ sym (q .place), p .buffer ∙ sym (q .buffer))
