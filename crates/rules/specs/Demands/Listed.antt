@@ -16,7 +16,7 @@ use lib.Dec.{T}
 use borrow.Author.Tests.{lt-ltb, le-ltb, le-leb}
 use Rattle.rules.specs.Doc.Outcomes.{fine, given}
 use Rattle.rules.specs.Doc.Lists.{any}
-use Rattle.rules.specs.Doc.Bytes.{Span, sizeOf, bytesIn, field, version}
+use Rattle.rules.specs.Doc.Bytes.{numberAt, Span, sizeOf, bytesIn, field, version}
 use Rattle.rules.specs.Doc.Walks.{outcome}
 use Rattle.rules.specs.Doc.Headers.{meta, headerAt, Box, boxOf, whole, announced, boxAt, childAt}
 use Rattle.rules.specs.Doc.Levels.{Level}
@@ -118,7 +118,7 @@ meta-four body e =
     omega arith
 
 meta-opening : (s : List ℕ) (m : Box) → m .kind ≡ meta → 4 ≤ sizeOf (m .body) → opening s m ≡ fine (some (m .body .from + 4))
-unfolding opening holders any behind
+unfolding opening holders any behind numberAt
 meta-opening s m e h = rw (e, le-ltb (sizeOf (m .body)) 4 h)
 
 -- the children that extraction walks, at their positions in the image

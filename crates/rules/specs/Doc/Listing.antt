@@ -7,7 +7,7 @@ use lib.ListN.{length, take, drop}
 use lib.Dec.{leb, ltb}
 use Rattle.rules.specs.Doc.Outcomes.{if_then_else_, Outcome, fine, refused, _>>=_}
 use Rattle.rules.specs.Doc.Lists.{any}
-use Rattle.rules.specs.Doc.Bytes.{sizeOf, bytesIn, version}
+use Rattle.rules.specs.Doc.Bytes.{numberAt, sizeOf, bytesIn, version}
 use Rattle.rules.specs.Doc.Headers.{meta, iinf, Box, is, childAt}
 use Rattle.rules.specs.Doc.Iinf.{countSize}
 use Rattle.rules.specs.Doc.Text.{ascii, hex, decimal}
@@ -40,9 +40,14 @@ finished then b = b
 
 -- ---- Which boxes are opened
 
--- At once: `moov`, `trak`, `mdia`, `minf`, `dinf`, `stbl`, `iprp`, `ipco`.
+-- the type that four letters are
+abbrev pub letters : String → ℕ
+letters name = numberAt (ascii name) 0 4
+
+-- At once.
 unfoldable pub holders : List ℕ
-holders = 0x6d6f6f76 ∷ 0x7472616b ∷ 0x6d646961 ∷ 0x6d696e66 ∷ 0x64696e66 ∷ 0x7374626c ∷ 0x69707270 ∷ 0x6970636f ∷ []
+holders =
+    letters "moov" ∷ letters "trak" ∷ letters "mdia" ∷ letters "minf" ∷ letters "dinf" ∷ letters "stbl" ∷ letters "iprp" ∷ letters "ipco" ∷ []
 
 -- The children start after n bytes of the body; a body too short for those bytes is 3.
 unfoldable pub behind : ℕ → Box → Outcome (Option ℕ)
@@ -68,10 +73,14 @@ unfoldable pub met : ℕ → ℕ → Outcome Box → (Box → Listing) → (ℕ 
 met depth at (refused n) inner next = fault at n
 met depth at (fine b) inner next = line (lineOf depth b) (inner b then next (b .body .to))
 
--- at most n boxes, from a position to the end of the bytes, each with what `inner` has of its children. All levels follow the rules inside a box.
+-- at most n boxes from a position on, each with what `inner` has of its children. All levels follow the rules inside a box.
 unfoldable pub rowOf : ℕ → (Box → Listing) → List ℕ → ℕ → ℕ → Listing
 rowOf depth inner s zero at = finished
 rowOf depth inner s (suc n) at = if leb (length s) at then finished else met depth at (childAt s at) inner (rowOf depth inner s n)
+
+-- the boxes from a position to the end of the bytes; there are no more of them than bytes
+unfoldable pub runOf : ℕ → (List ℕ → Box → Listing) → List ℕ → ℕ → Listing
+runOf depth inner s at = rowOf depth (inner s) s (length s) at
 
 -- the children of the box at a position, by where they start
 unfoldable pub childrenOf : ℕ → Outcome (Option ℕ) → (ℕ → Listing) → Listing
@@ -87,16 +96,14 @@ deepest = 8
 abbrev pub depthOver : ℕ → ℕ
 depthOver levels = deepest - levels
 
--- What stands in one box: it is opened if there are levels left. Children fill the body: the bytes around them end where the box does.
+-- One box is opened if there are levels left. Children fill the body: the bytes around them end where the box does.
 unfoldable pub openBox : ℕ → List ℕ → Box → Listing
 openBox zero s b = finished
-openBox (suc levels) s b =
-    childrenOf (b .start) (opening s b)
-    (rowOf (depthOver levels) (openBox levels (take (b .body .to) s)) (take (b .body .to) s) (length (take (b .body .to) s)))
+openBox (suc levels) s b = childrenOf (b .start) (opening s b) (runOf (depthOver levels) (openBox levels) (take (b .body .to) s))
 
--- A run of boxes, from a position to the end of the bytes; there are no more of them than bytes.
+-- A run of boxes, with so many levels under them.
 unfoldable pub listRun : ℕ → List ℕ → ℕ → Listing
-listRun levels s at = rowOf (depthOver levels) (openBox levels s) s (length s) at
+listRun levels s at = runOf (depthOver levels) (openBox levels) s at
 
 -- ---- The text
 

@@ -13,7 +13,7 @@ use Rattle.rules.specs.Doc.Lists.{any}
 use Rattle.rules.specs.Doc.Bytes.{sizeOf, bytesIn, version}
 use Rattle.rules.specs.Doc.Headers.{meta, iinf, Box, is, childAt}
 use Rattle.rules.specs.Doc.Iinf.{countSize}
-use Rattle.rules.specs.Doc.Listing.{Listing, finished, fault, line, _then_, holders, behind, behindCount, opening, met, rowOf, childrenOf, depthOver, openBox, listRun, lineText, textOf}
+use Rattle.rules.specs.Doc.Listing.{Listing, finished, fault, line, _then_, holders, behind, behindCount, opening, met, rowOf, runOf, childrenOf, depthOver, openBox, listRun, lineText, textOf}
 use Rattle.rules.specs.Laws.Rows.{by-test}
 use Rattle.rules.specs.Laws.Headers.{child-inside}
 
@@ -87,7 +87,7 @@ module _ (depth : ℕ) (inner : Box → Listing) (s : List ℕ) where
 
 module _ (levels : ℕ) (s : List ℕ) (at : ℕ) where
   unroll : listRun levels s at ≡ (if leb (length s) at then finished else met (depthOver levels) at (childAt s at) (openBox levels s) (listRun levels s))
-  unfolding listRun rowOf
+  unfolding listRun runOf rowOf
   unroll = enough (depthOver levels) (openBox levels s) s (length s) (suc (length s)) at (omega arith) (omega arith)
 
   pub run-done : length s ≤ at → listRun levels s at ≡ finished

@@ -13,7 +13,7 @@ use Rattle.rules.specs.Doc.Lists.{any}
 use Rattle.rules.specs.Doc.Bytes.{sizeOf, bytesIn, version}
 use Rattle.rules.specs.Doc.Headers.{meta, iinf, Box, is, childAt}
 use Rattle.rules.specs.Doc.Iinf.{countSize}
-use Rattle.rules.specs.Doc.Listing.{lineOf, Listing, finished, fault, line, _then_, holders, behind, behindCount, opening, met, rowOf, childrenOf, deepest}
+use Rattle.rules.specs.Doc.Listing.{lineOf, Listing, finished, fault, line, _then_, holders, behind, behindCount, opening, met, rowOf, runOf, childrenOf, deepest}
 use Rattle.rules.specs.Doc.Listing.{depthOver, openBox, listRun, frontText, lineText, lastText, textOf, longest, listing, printed}
 use Rattle.rules.specs.Laws.Rows.{by-test}
 use Rattle.rules.specs.Laws.Headers.{Inside, child-inside}
@@ -101,7 +101,7 @@ module _ (levels : ℕ) (s : List ℕ) (h : length s ≤ longest)
       by-test (Short size) (leb (length s) at) (λ e. tt) (λ e. met-short at size (leb-false (length s) at e) g (childAt s at) refl _ (row-short n))
 
 run-short : (levels : ℕ) (s : List ℕ) → length s ≤ longest → Runs (length s) (listRun levels s)
-unfolding listRun openBox
+unfolding listRun runOf openBox
 run-short zero s h = row-short 0 s h (λ at b i. tt) (length s)
 run-short (suc levels) s h =
     row-short (suc levels) s h (λ at b i.

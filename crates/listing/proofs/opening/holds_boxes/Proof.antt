@@ -2,16 +2,17 @@
 use mathlib.Core.Logic.{⊎-elim, inl, inr}
 use borrow.Author.Tests.{ne-eqb}
 use Rattle.rules.specs.Doc.Lists.{any}
+use Rattle.rules.specs.Doc.Bytes.{numberAt}
 use Rattle.rules.specs.Doc.Listing.{holders}
 use Rattle.listing.proofs.opening.holds_boxes.Statement.{statement}
 use Rattle.listing.proofs.opening.holds_boxes.Tie as tie
 
 returns : tie.Need-returns
-unfolding any holders
+unfolding any holders numberAt
 returns c = ⊎-elim (λ e. rw e) (⊎-elim (λ e. rw e) (⊎-elim (λ e. rw e) (⊎-elim (λ e. rw e) (⊎-elim (λ e. rw e) (⊎-elim (λ e. rw e) (⊎-elim (λ e. rw e) (λ e. rw e))))))) (c .match .keys1)
 
 returns-2 : tie.Need-returns-2
-unfolding any holders
+unfolding any holders numberAt
 returns-2 c =
     let other = c .match .rest .1 in
     rw (
