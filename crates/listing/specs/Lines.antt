@@ -84,7 +84,8 @@ module _ {l₀ l : Listing} {at₀ at : ℕ} {before now : List ℕ} (left : Lef
         unfolding _then_
         went-wrong {k} {p} {e} g =
             let f : fault p (number e) ≡ ending a = rw g at (inner .end) in
+            let all = lines-box [] (fault-lines a b f ∙ sym (append-nil (linesText a))) in
             record {
-              text = rw (lines-box [] (fault-lines a b f ∙ sym (append-nil (linesText a))), append-nil (left .done ++ lineText x ++ linesText a)) (rw g at wrote-box);
+              text = rw (all, append-nil (left .done ++ lineText x ++ linesText a)) (rw g at wrote-box);
               end = rw (← f) at ends-box;
             }

@@ -1,11 +1,12 @@
 -- One turn of a run, and one box, by what the code was told of them.
 use mathlib.Core.Path.{_≡_, _∙_}
-use Prim.Native.Nat.{ℕ, _-_, _<_}
+use Prim.Native.Nat.{ℕ, _+_, _-_, _≤_, _<_}
 use mathlib.Core.List.{List}
 use lib.ListN.{length, take}
 use Rattle.rules.specs.Doc.Outcomes.{refused}
 use Rattle.rules.specs.Doc.Headers.{Box, boxOf, childAt}
 use Rattle.rules.specs.Doc.Listing.{lineOf, finished, fault, line, _then_, opening, met, childrenOf, depthOver, openBox, listRun}
+use Rattle.rules.specs.Laws.Headers.{child-inside}
 use Rattle.rules.specs.Laws.Listing.{run-next, open-none, open-fewer}
 use Rattle.boxes.specs.Told.{number}
 use Rattle.boxes.specs.Loops.{WholeBox}
@@ -14,15 +15,24 @@ use Rattle.listing.specs.declared.opening.Inner.{Inner}
 use Rattle.listing.specs.declared.opening.Inner.the-variants.{Leaf, Children, Refused}
 use Rattle.listing.specs.Told.{starts}
 
+-- A turn that met a whole box: where the box lies, and that what is listed is its line, what stands in it, and the rest of the run.
+pub record Turn (levels : ℕ) (s : List ℕ) (at kind from to : ℕ) : Type 0 where
+  pub ahead : at + 8 ≤ from
+  pub order : from ≤ to
+  pub inner : to ≤ length s
+  pub less : length s - to < length s - at
+  pub splits : listRun levels s at ≡ line (lineOf (depthOver levels) (boxOf at kind from to)) (openBox levels s (boxOf at kind from to) then listRun levels s to)
+
 module _ (levels : ℕ) (s : List ℕ) (at : ℕ) (more : at < length s) where
   pub turn-refused : {n : ℕ} → refused n ≡ childAt s at → listRun levels s at ≡ fault at n
   unfolding met
   turn-refused e = run-next levels s at more ∙ rw (← e)
 
-  pub turn-box : {kind from to : ℕ} → WholeBox s at kind from to
-      → listRun levels s at ≡ line (lineOf (depthOver levels) (boxOf at kind from to)) (openBox levels s (boxOf at kind from to) then listRun levels s to)
+  pub turn-box : {kind from to : ℕ} → WholeBox s at kind from to → Turn levels s at kind from to
   unfolding met
-  turn-box b = run-next levels s at more ∙ rw (← b .is)
+  turn-box b =
+      let i = child-inside s at (b .is) in
+      record { ahead = i .ahead; order = b .order; inner = b .inner; less = b .less; splits = run-next levels s at more ∙ rw (← b .is) }
 
 module _ (levels : ℕ) (s : List ℕ) (b : Box) where
   pub box-deepest : levels ≡ 0 → openBox levels s b ≡ finished

@@ -1,6 +1,6 @@
 -- No two outcomes, answer and buffer together, meet a contract of this crate.
 use mathlib.Core.Path.{_≡_, sym, _∙_}
-use Prim.Native.Nat.{ℕ, _≤_}
+use Prim.Native.Nat.{ℕ}
 use mathlib.Core.List.{List, _++_}
 use lib.ListN.{length, drop}
 use Rattle.rules.specs.Doc.Listing.{listing, printed}

@@ -10,12 +10,11 @@ use borrow.Fn.Kinds.{In}
 use borrow.Fn.PlainCycle.{Measures, is, falls, and}
 use Rattle.rules.specs.Doc.Listing.{listRun}
 use Rattle.rules.specs.Laws.Numbers.{first-part}
-use Rattle.rules.specs.Laws.Headers.{child-inside}
 use Rattle.rules.specs.Laws.Listing.{run-done, children-ahead}
-use Rattle.boxes.specs.Loops.{WholeBox, box-refused, box-whole}
+use Rattle.boxes.specs.Loops.{box-refused, box-whole}
 use Rattle.listing.specs.Told.{boxIn}
 use Rattle.listing.specs.Lines.{Left, left-all, left-finished, left-fault, room-line, room-box, went-on, went-wrong}
-use Rattle.listing.specs.Turns.{turn-refused, turn-box, box-deepest, box-leaf, box-short, box-children}
+use Rattle.listing.specs.Turns.{Turn, turn-refused, turn-box, box-deepest, box-leaf, box-short, box-children}
 use Rattle.listing.proofs.list_run.Reads as list-run
 use Rattle.listing.proofs.list_run.Kinds as list-run-kinds
 use Rattle.listing.proofs.+list_run+open_box.Lts-list_run as run
@@ -89,11 +88,13 @@ module _ (t : ℕ) where
   -- the box of this turn, once it is known to be whole
   box : (c : run.After-kind run-calls run-here list-run.Post Inv-loop μ-loop)
       → let turn = c .before .before .before .before .before in
+      let a = turn .before .before .before .args in
       let b = c .kind .given .0 in
-      WholeBox (turn .before .before .before .args .s .now) (turn .loop .at) (b .0) (b .1 .0) (b .1 .1 .0)
+      Turn (a .levels) (a .s .now) (turn .loop .at) (b .0) (b .1 .0) (b .1 .1 .0)
   box c =
       let tried = c .before .before in
-      box-whole _ _ (tried .before .read .ensures 3) (tried .child-box .ensures _) (c .kind .given .1)
+      let b = box-whole _ _ (tried .before .read .ensures 3) (tried .child-box .ensures _) (c .kind .given .1) in
+      turn-box _ _ _ (tried .before .before .loop-test .taken) b
 
   run-sub-put-line : run.Need-sub-put-line run-calls run-here list-run.Post Inv-loop μ-loop
   run-sub-put-line c = search needs
@@ -104,8 +105,7 @@ module _ (t : ℕ) where
       let turn = found .before .before .before .before .before in
       let start = turn .before .before .before in
       let b = box found in
-      let i = child-inside (start .args .s .now) (turn .loop .at) (b .is) in
-      ((omega (arith, i .ahead), b .order), room-line (turn .loop .inv .2) _ _ (turn-box (start .args .levels) (start .args .s .now) (turn .loop .at) (found .before .before .before .before .loop-test .taken) (box found)) (start .pre .1 .1))
+      ((omega (arith, b .ahead), b .order), room-line (turn .loop .inv .2) _ _ (b .splits) (start .pre .1 .1))
 
   run-open-box-requires : run.Need-open-box-requires run-calls run-here list-run.Post Inv-loop μ-loop
   run-open-box-requires c κs =
@@ -113,10 +113,8 @@ module _ (t : ℕ) where
       let turn = found .before .before .before .before .before in
       let start = turn .before .before .before in
       let b = box found in
-      let i = child-inside (start .args .s .now) (turn .loop .at) (b .is) in (
-        omega (arith, start .pre .0, turn .loop .inv .0, i .ahead, b .order, b .inner),
-        ((b .order, b .inner), (start .pre .1 .0, room-box (turn .loop .inv .2) _ _ (turn-box (start .args .levels) (start .args .s .now) (turn .loop .at) (found .before .before .before .before .loop-test .taken) (box found)) (start .pre .1 .1) (c .before .before .before .put-line .ensures))),
-      )
+      let room = room-box (turn .loop .inv .2) _ _ (b .splits) (start .pre .1 .1) (c .before .before .before .put-line .ensures) in
+      (omega (arith, start .pre .0, turn .loop .inv .0, b .ahead, b .order, b .inner), ((b .order, b .inner), (start .pre .1 .0, room)))
 
   run-enum-known-text : run.Need-enum-known-text run-calls run-here list-run.Post Inv-loop μ-loop
   run-enum-known-text c = search needs
@@ -126,10 +124,12 @@ module _ (t : ℕ) where
 
   run-returns-2 : run.Need-returns-2 run-calls run-here list-run.Post Inv-loop μ-loop
   run-returns-2 c =
-      let found = c .before .before .before .before .before .before .before .before .before .before .before .before in
+      let inner = c .before .before .before .before .before in
+      let put = inner .before .before .before .before in
+      let found = put .before .before .before in
       let turn = found .before .before .before .before .before in
       let start = turn .before .before .before in
-      went-wrong (turn .loop .inv .2) _ _ (turn-box (start .args .levels) (start .args .s .now) (turn .loop .at) (found .before .before .before .before .loop-test .taken) (box found)) (start .pre .1 .1) (c .before .before .before .before .before .before .before .before .before .put-line .ensures) (c .before .before .before .before .before .open-box .ensures) (c .before .text .given .1)
+      went-wrong (turn .loop .inv .2) _ _ (box found .splits) (start .pre .1 .1) (put .put-line .ensures) (inner .open-box .ensures) (c .before .text .given .1)
 
   run-enum-known-next : run.Need-enum-known-next run-calls run-here list-run.Post Inv-loop μ-loop
   run-enum-known-next c = search needs
@@ -139,15 +139,15 @@ module _ (t : ℕ) where
 
   run-loop-again : run.Need-loop-again run-calls run-here list-run.Post Inv-loop μ-loop
   run-loop-again c =
-      let found = c .before .before .before .before .before .before .before .before .before .before .before .before in
+      let inner = c .before .before .before .before .before in
+      let put = inner .before .before .before .before in
+      let found = put .before .before .before in
       let turn = found .before .before .before .before .before in
       let start = turn .before .before .before in
       let b = box found in
-      let i = child-inside (start .args .s .now) (turn .loop .at) (b .is) in (
-        omega (arith, turn .loop .inv .0, i .ahead, b .order),
-        c .before .before .before .before .before .open-box .kept .1 .1 .1 .0 ∙ c .before .before .before .before .before .before .before .before .before .put-line .kept .1 .1 .0 ∙ turn .loop .inv .1,
-        went-on (turn .loop .inv .2) _ _ (turn-box (start .args .levels) (start .args .s .now) (turn .loop .at) (found .before .before .before .before .loop-test .taken) (box found)) (start .pre .1 .1) (c .before .before .before .before .before .before .before .before .before .put-line .ensures) (c .before .before .before .before .before .open-box .ensures) (c .before .next .given .1),
-      )
+      let kept = inner .open-box .kept .1 .1 .1 .0 ∙ put .put-line .kept .1 .1 .0 ∙ turn .loop .inv .1 in
+      let left = went-on (turn .loop .inv .2) _ _ (b .splits) (start .pre .1 .1) (put .put-line .ensures) (inner .open-box .ensures) (c .before .next .given .1) in
+      (omega (arith, turn .loop .inv .0, b .ahead, b .order), kept, left)
 
   run-same-length-3 : run.Need-same-length-3 run-calls run-here list-run.Post Inv-loop μ-loop
   run-same-length-3 c = search needs
@@ -201,10 +201,9 @@ module _ (t : ℕ) where
       let a = start .args in
       let given = c .before .before .before in
       let n = length-take-le (a .found .to) (a .s .now) (start .pre .1 .0 .1) in
-      let ahead = children-ahead (a .s .now) (boxIn (a .found)) (rw (given .from .given .1) at (told .opening .ensures)) in (
-        omega (arith, start .pre .0, n, ahead),
-        (omega (arith, start .pre .1 .1 .0), rw (box-children (a .levels) (a .s .now) (boxIn (a .found)) (told .before .if1 .left) (told .opening .ensures) (given .from .given .1)) at (start .pre .1 .1 .1)),
-      )
+      let ahead = children-ahead (a .s .now) (boxIn (a .found)) (rw (given .from .given .1) at (told .opening .ensures)) in
+      let run = box-children (a .levels) (a .s .now) (boxIn (a .found)) (told .before .if1 .left) (told .opening .ensures) (given .from .given .1) in
+      (omega (arith, start .pre .0, n, ahead), (omega (arith, start .pre .1 .1 .0), rw run at (start .pre .1 .1 .1)))
 
   one-returns-2 : one.Need-returns-2 one-calls one-here open-box.Post
   one-returns-2 c =
@@ -223,9 +222,11 @@ module _ (t : ℕ) where
 
   one-returns-4 : one.Need-returns-4 one-calls one-here open-box.Post
   one-returns-4 c =
-      let told = c .before .before .before .before .before .before .before .before in
+      let given = c .before .before .before .before .before .before in
+      let told = given .before .before in
       let a = told .before .before .before .before .args in
-      rw (box-children (a .levels) (a .s .now) (boxIn (a .found)) (told .before .if1 .left) (told .opening .ensures) (c .before .before .before .before .before .before .from .given .1)) (c .before .before .list-run .ensures)
+      let run = box-children (a .levels) (a .s .now) (boxIn (a .found)) (told .before .if1 .left) (told .opening .ensures) (given .from .given .1) in
+      rw run (c .before .before .list-run .ensures)
 
 pub +list-run+open-box-spec : {M : Type 1} → statement M
 +list-run+open-box-spec =

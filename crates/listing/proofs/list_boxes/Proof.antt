@@ -22,7 +22,9 @@ same-length c = search needs
 
 returns : tie.Need-returns
 returns c =
-    rw (too-long (c .before .before .before .before .before .before .before .before .args .image .now) (c .before .before .before .before .before .if1 .taken), ← c .before .before .before .before .number .ensures) (from-front (c .before .before .put-last .ensures))
+    let told = c .before .before .before .before in
+    let long = too-long (told .before .before .before .before .args .image .now) (told .before .if1 .taken) in
+    rw (long, ← told .number .ensures) (from-front (c .before .before .put-last .ensures))
 
 list-run-requires : tie.Need-list-run-requires
 list-run-requires c κs = (omega arith, room-lines (c .before .before .before .before .args .image .now) (c .before .if1 .left))
@@ -71,7 +73,8 @@ unfolding textOf
 returns-3 c =
     let listed = c .before .before .before .before .before .before .before .before .before .before in
     let lines = rw (c .before .before .before .before .before .before .text2 .given .1) at (listed .list-run .ensures) in
-    whole (listed .before .before .before .before .before .args .image .now) (listed .before .before .if1 .left) lines (rw (c .before .before .before .before .number2 .ensures) at (c .before .before .put-last3 .ensures))
+    let last = rw (c .before .before .before .before .number2 .ensures) at (c .before .before .put-last3 .ensures) in
+    whole (listed .before .before .before .before .before .args .image .now) (listed .before .before .if1 .left) lines last
 
 pub list-boxes-spec : {M : Type 1} → statement M
 list-boxes-spec =

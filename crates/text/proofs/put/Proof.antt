@@ -35,9 +35,11 @@ loop-less c = search needs
 
 loop-again : tie.Need-loop-again Inv-loop μ-loop
 loop-again c =
-    let put = c .before .before .put-byte in
-    let l = c .before .before .before .before .before .before .loop in
-    (omega arith, put .kept .1 .0 ∙ l .inv .1, wrote-more (c .before .before .before .before .before .before .before .before .before .args .part .now) (c .before .before .before .before .before .loop-test .taken) (l .inv .2) (put .ensures))
+    let put = c .before .before in
+    let turn = put .before .before .before .before in
+    let part = turn .before .before .before .args .part .now in
+    let inv = turn .loop .inv in
+    (omega arith, put .put-byte .kept .1 .0 ∙ inv .1, wrote-more part (put .before .before .before .loop-test .taken) (inv .2) (put .put-byte .ensures))
 
 same-length : tie.Need-same-length Inv-loop μ-loop
 same-length c = search needs

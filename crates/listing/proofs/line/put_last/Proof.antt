@@ -14,7 +14,9 @@ unfolding lastText
 put-named-requires c κs =
     let start = c .before .before .before in
     let a = start .args in
-    room-first (a .at) (named "end=" (a .end)) (named " answer=" (a .answer)) (room-first (a .at) (named "end=" (a .end) ++ named " answer=" (a .answer)) newline (start .pre))
+    let e = named "end=" (a .end) in
+    let n = named " answer=" (a .answer) in
+    room-first (a .at) e n (room-first (a .at) (e ++ n) newline (start .pre))
 
 slice-aggregate-put-named-2 : tie.Need-slice-aggregate-put-named-2
 slice-aggregate-put-named-2 c = search needs
@@ -25,7 +27,9 @@ put-named-requires-2 c κs =
     let place = c .before .before .before .before in
     let start = place .before .before .before .before in
     let a = start .args in
-    room-then (place .put-named .ensures) (named " answer=" (a .answer)) (room-first (a .at) (named "end=" (a .end) ++ named " answer=" (a .answer)) newline (start .pre))
+    let e = named "end=" (a .end) in
+    let n = named " answer=" (a .answer) in
+    room-then (place .put-named .ensures) n (room-first (a .at) (e ++ n) newline (start .pre))
 
 slice-aggregate-put : tie.Need-slice-aggregate-put
 slice-aggregate-put c = search needs

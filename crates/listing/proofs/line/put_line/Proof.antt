@@ -13,8 +13,10 @@ unfolding lineOf lineText
 put-front-requires c κs =
     let start = c .before .before in
     let a = start .args in
-    room-first (a .at) (frontText (a .depth) (a .found .start) (a .found .kind)) (named " header=" (a .found .from - a .found .start))
-    (room-two (a .at) (frontText (a .depth) (a .found .start) (a .found .kind)) (named " header=" (a .found .from - a .found .start)) (named " body=" (a .found .to - a .found .from)) newline (start .pre .1))
+    let f = frontText (a .depth) (a .found .start) (a .found .kind) in
+    let h = named " header=" (a .found .from - a .found .start) in
+    let b = named " body=" (a .found .to - a .found .from) in
+    room-first (a .at) f h (room-two (a .at) f h b newline (start .pre .1))
 
 slice-aggregate-put-named : tie.Need-slice-aggregate-put-named
 slice-aggregate-put-named c = search needs
@@ -28,8 +30,10 @@ put-named-requires c κs =
     let front = c .before .before .before .before .before in
     let start = front .before .before .before in
     let a = start .args in
-    room-then (front .put-front .ensures) (named " header=" (a .found .from - a .found .start))
-    (room-two (a .at) (frontText (a .depth) (a .found .start) (a .found .kind)) (named " header=" (a .found .from - a .found .start)) (named " body=" (a .found .to - a .found .from)) newline (start .pre .1))
+    let f = frontText (a .depth) (a .found .start) (a .found .kind) in
+    let h = named " header=" (a .found .from - a .found .start) in
+    let b = named " body=" (a .found .to - a .found .from) in
+    room-then (front .put-front .ensures) h (room-two (a .at) f h b newline (start .pre .1))
 
 slice-aggregate-put-named-2 : tie.Need-slice-aggregate-put-named-2
 slice-aggregate-put-named-2 c = search needs
@@ -44,8 +48,10 @@ put-named-requires-2 c κs =
     let front = header .before .before .before .before .before .before in
     let start = front .before .before .before in
     let a = start .args in
-    room-then (wrote-then (front .put-front .ensures) (header .put-named .ensures)) (named " body=" (a .found .to - a .found .from))
-    (room-first (a .at) (frontText (a .depth) (a .found .start) (a .found .kind) ++ named " header=" (a .found .from - a .found .start) ++ named " body=" (a .found .to - a .found .from)) newline (start .pre .1))
+    let f = frontText (a .depth) (a .found .start) (a .found .kind) in
+    let h = named " header=" (a .found .from - a .found .start) in
+    let b = named " body=" (a .found .to - a .found .from) in
+    room-then (wrote-then (front .put-front .ensures) (header .put-named .ensures)) b (room-first (a .at) (f ++ h ++ b) newline (start .pre .1))
 
 slice-aggregate-put : tie.Need-slice-aggregate-put
 slice-aggregate-put c = search needs

@@ -47,8 +47,8 @@ unfolding countSize
 returns c =
     let read = c .before .before .before .before .before in
     let start = read .before .before .before in
-    rw (counted (start .args .s .now) (boxIn (start .args .found)) (start .pre .1) (read .fullbox-header .ensures), c .before .before .before .version .given .1, c .before .if1 .taken)
-    (c .behind .ensures)
+    let v = counted (start .args .s .now) (boxIn (start .args .found)) (start .pre .1) (read .fullbox-header .ensures) in
+    rw (v, c .before .before .before .version .given .1, c .before .if1 .taken) (c .behind .ensures)
 
 behind-requires-2 : tie.Need-behind-requires-2
 behind-requires-2 c κs = search needs
@@ -64,8 +64,8 @@ unfolding countSize
 returns-3 c =
     let read = c .before .before .before .before .before in
     let start = read .before .before .before in
-    rw (counted (start .args .s .now) (boxIn (start .args .found)) (start .pre .1) (read .fullbox-header .ensures), c .before .before .before .version .given .1, countSize, ne-eqb _ _ (c .before .if1 .left))
-    (c .behind2 .ensures)
+    let v = counted (start .args .s .now) (boxIn (start .args .found)) (start .pre .1) (read .fullbox-header .ensures) in
+    rw (v, c .before .before .before .version .given .1, countSize, ne-eqb _ _ (c .before .if1 .left)) (c .behind2 .ensures)
 
 pub behind-count-spec : {M : Type 1} → statement M
 behind-count-spec =

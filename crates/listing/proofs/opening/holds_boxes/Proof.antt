@@ -9,7 +9,11 @@ use Rattle.listing.proofs.opening.holds_boxes.Tie as tie
 
 returns : tie.Need-returns
 unfolding any holders numberAt
-returns c = ⊎-elim (λ e. rw e) (⊎-elim (λ e. rw e) (⊎-elim (λ e. rw e) (⊎-elim (λ e. rw e) (⊎-elim (λ e. rw e) (⊎-elim (λ e. rw e) (⊎-elim (λ e. rw e) (λ e. rw e))))))) (c .match .keys1)
+returns c =
+    ⊎-elim (λ e. rw e)
+    (⊎-elim (λ e. rw e)
+    (⊎-elim (λ e. rw e) (⊎-elim (λ e. rw e) (⊎-elim (λ e. rw e) (⊎-elim (λ e. rw e) (⊎-elim (λ e. rw e) (λ e. rw e)))))))
+    (c .match .keys1)
 
 returns-2 : tie.Need-returns-2
 unfolding any holders numberAt

@@ -23,11 +23,17 @@ behind-count-requires c κs = search needs
 
 returns-2 : tie.Need-returns-2
 unfolding opening
-returns-2 c = rw (opening, ← c .before .before .before .holds-boxes .ensures, c .before .before .if1 .left, c .before .match .keys1) (rw (c .before .match .keys1) at (c .behind2 .ensures))
+returns-2 c =
+    let held = c .before .before in
+    let kind = c .before .match .keys1 in
+    rw (opening, ← held .before .holds-boxes .ensures, held .if1 .left, kind) (rw kind at (c .behind2 .ensures))
 
 returns-3 : tie.Need-returns-3
 unfolding opening
-returns-3 c = rw (opening, ← c .before .before .before .holds-boxes .ensures, c .before .before .if1 .left, c .before .match .keys2) (rw (c .before .match .keys2) at (c .behind-count .ensures))
+returns-3 c =
+    let held = c .before .before in
+    let kind = c .before .match .keys2 in
+    rw (opening, ← held .before .holds-boxes .ensures, held .if1 .left, kind) (rw kind at (c .behind-count .ensures))
 
 returns-4 : tie.Need-returns-4
 unfolding opening
