@@ -102,11 +102,3 @@ pub(crate) fn of_answer(answer: Extracted, heif: bool, out: &[u8], text: &mut [u
     let at = put_hex(out, text, at);
     put(b"\n", text, at)
 }
-
-pub(crate) fn of_end(case: u64, why: &[u8], text: &mut [u8]) -> usize
-    ensures { λ r. ⌜ r ≤ length (now (text .exit)) ⌝ }
-{
-    let at = put(b"case=", text, 0);
-    let at = put_decimal(case, text, at);
-    put(why, text, at)
-}

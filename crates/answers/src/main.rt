@@ -4,7 +4,7 @@ mod line;
 
 ghost use Prim.Native.Nat.{_≤_};
 ghost use lib.ListN.{length};
-use libc::STDIN_FILENO;
+use case_reader::Next;
 use libc::STDOUT_FILENO;
 
 const MOST_IMAGE: usize = 1048576;
@@ -14,14 +14,6 @@ const MOST_OUT: usize = 131072;
 // Two digits for each byte of the output, and the words around them.
 const MOST_LINE: usize = 262208;
 
-fn fill(out: &mut [u8]) {
-    let mut i: usize = 0;
-    while i < out.len() {
-        out[i] = 0xa5;
-        i += 1;
-    }
-}
-
 fn show(text: &[u8], n: usize) -> bool
     requires { ⌜ n ≤ length (now text) ⌝ }
 {
@@ -30,43 +22,18 @@ fn show(text: &[u8], n: usize) -> bool
 
 // Whether to go on: the line of the case was written.
 fn answer(image: &[u8], out: &mut [u8], text: &mut [u8]) -> bool {
-    fill(out);
+    case_reader::fill(0xa5, out);
     let answered = isobmff::get_exif_attr(image, out);
     let n = line::of_answer(answered, brands::is_heif(image), out, text);
     show(text, n)
 }
 
-// Ends the run with a line that says why.
-fn stop(case: u64, why: &[u8], text: &mut [u8]) -> bool {
-    let n = line::of_end(case, why, text);
-    show(text, n);
-    false
-}
-
-// Reads an image that fills the slice, and answers it.
-fn whole(case: u64, image: &mut [u8], out: &mut [u8], text: &mut [u8]) -> bool {
-    if io::read_full(STDIN_FILENO, image) < image.len() {
-        return stop(case, b" cut\n", text);
-    }
-    answer(image, out, text)
-}
-
 // Reads one case and answers it, and says whether to go on.
 fn one(case: u64, image: &mut [u8], out: &mut [u8], text: &mut [u8]) -> bool {
-    let mut head = [0u8; 8];
-    let got = io::read_full(STDIN_FILENO, &mut head);
-    if got == 0 {
+    let Next::Case { image: n, out: m } = case_reader::next_case(case, image, out.len()) else {
         return false;
-    }
-    if got < 8 {
-        return stop(case, b" cut\n", text);
-    }
-    let n = endian::loadu32(&head, 0) as usize;
-    let m = endian::loadu32(&head, 4) as usize;
-    if image.len() < n || out.len() < m {
-        return stop(case, b" too long\n", text);
-    }
-    whole(case, &mut image[..n], &mut out[..m], text)
+    };
+    answer(&image[..n], &mut out[..m], text)
 }
 
 // A proved loop has to end, and nothing says that standard input does. So the loop counts the cases, up to a number that no run reaches.
