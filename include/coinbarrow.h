@@ -1,5 +1,5 @@
 /*
- * Coinbarrow: the Exif block of a HEIF image. Link libcoinbarrow.a, which is for x86-64 Linux.
+ * Coinbarrow: the Exif block of a HEIF image, and a listing of its boxes. Link libcoinbarrow.a, which is for x86-64 Linux.
  *
  * Bytes are passed as a pointer and a length. Where a length is 0 the pointer isn't used, and may be null. `out` must not overlap `image`.
  * A call reads only the bytes of `image` and writes only the bytes of `out`. It allocates nothing and keeps nothing for later, so calls may run on
@@ -50,6 +50,29 @@ static inline size_t coinbarrow_length(uint64_t answer) {
 
 /* Whether the first `ftyp` box has `mif1` or `msf1` among its compatible brands. It and the boxes before it must be whole. */
 bool coinbarrow_is_heif(const uint8_t *bytes, size_t bytes_len);
+
+/* The longest image that is listed. */
+#define COINBARROW_LONGEST_LISTED 65536
+
+/* No text is longer than this: an output of so many bytes always gets all of it. */
+#define COINBARROW_LONGEST_TEXT 458772
+
+/*
+ * The boxes of `image` as text, a line a box. The text goes to the front of `out`, as much of it as there is room for. It has no zero byte at its
+ * end. The answer is the length of all of it: where that is more than `out_len` the text was cut, maybe inside a line; otherwise `out` is unchanged
+ * behind it.
+ *
+ *   depth=1 at=99 type=69646174 header=8 body=9
+ *
+ * says of a box how many others it is in, where it starts, its type in hex (here `idat`), and the bytes of its header and of its body. The lines of
+ * the boxes inside it follow, if it is a `moov`, `trak`, `mdia`, `minf`, `dinf`, `stbl`, `iprp`, `ipco`, `meta` or `iinf`, and its depth is below 8.
+ * The last line is one of
+ *
+ *   end=116 answer=0       all was read; the image has 116 bytes
+ *   end=20 answer=3        the box at 20 can't be read or opened; the number says why, as above
+ *   end=65536 answer=29    the image is longer than COINBARROW_LONGEST_LISTED; it is the only line
+ */
+size_t coinbarrow_list(const uint8_t *image, size_t image_len, uint8_t *out, size_t out_len);
 
 #ifdef __cplusplus
 }

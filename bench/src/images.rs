@@ -1,4 +1,4 @@
-//! The images, made of their boxes. Each has an Exif item, and both sides answer 0 for it.
+//! The images, made of their boxes. Each has an Exif item, and both sides answer 0 for it; but for those of the listing, at the end.
 
 use oracle::boxes::plain;
 use oracle::every;
@@ -128,6 +128,10 @@ impl Phone {
 
     /// With the body of the `mdat` at this place of the image.
     fn meta(self, at: usize) -> Vec<u8> {
+        self.meta_with(at, &boxed("iprp", &[&[0; 1000]]))
+    }
+
+    fn meta_with(self, at: usize, properties: &[u8]) -> Vec<u8> {
         let ids = 1..=Self::ITEMS;
         let entries: Vec<u8> = ids.flat_map(|id| entry(id, 0, 1, &extent(at, if id == Self::EXIF { self.exif } else { 16 }))).collect();
         meta(&[
@@ -135,7 +139,7 @@ impl Phone {
             &boxed("pitm", &[&[0; 4], &two(49)]),
             &self.iinf(),
             &boxed("iref", &[&[0; 200]]),
-            &boxed("iprp", &[&[0; 1000]]),
+            properties,
             &boxed("idat", &[&[0; 8]]),
             &iloc(Self::ITEMS, &entries),
         ])
@@ -224,4 +228,42 @@ pub fn iloc_of_no_bytes(length: usize, wanted: bool) -> Vec<u8> {
     let id = if wanted { EXIF } else { OTHER };
     let (count, entries) = filled(length, &long_entry(id, 65_535), &long_entry(EXIF, 1));
     by_iloc(&long_iloc(count, &entries))
+}
+
+impl Phone {
+    /// Without the `mdat`, and with properties that are boxes, as the listing looks into them.
+    pub fn front(self) -> Vec<u8> {
+        let zeros = |kind, length| boxed(kind, &[&[0; 1000][..length]]);
+        let property = [("colr", 548), ("hvcC", 104), ("ispe", 12), ("irot", 1), ("pixi", 8), ("ispe", 12), ("hvcC", 104)];
+        let properties: Vec<u8> = property.iter().flat_map(|&(kind, length)| zeros(kind, length)).collect();
+        [ftyp(), self.meta_with(0, &boxed("iprp", &[&boxed("ipco", &[&properties]), &zeros("ipma", 139)]))].concat()
+    }
+}
+
+/// So many boxes with no body.
+pub fn small_boxes(count: usize) -> Vec<u8> {
+    boxed("free", &[]).repeat(count)
+}
+
+/// One box of so many bytes.
+pub fn one_box(length: usize) -> Vec<u8> {
+    boxed("mdat", &[&vec![0; length - 8]])
+}
+
+/// The boxes at this depth aren't opened.
+const DEEPEST: usize = 8;
+
+/// Bytes in as many boxes as are opened, each in the one before it.
+fn nested(inner: Vec<u8>) -> Vec<u8> {
+    (0..DEEPEST).fold(inner, |inner, _| boxed("moov", &[&inner]))
+}
+
+/// So many boxes with no body, as deep as boxes are listed.
+pub fn deep_boxes(count: usize) -> Vec<u8> {
+    nested(small_boxes(count))
+}
+
+/// So many boxes in a row, each with boxes in it, one in another, as deep as they are listed.
+pub fn chains(count: usize) -> Vec<u8> {
+    nested(small_boxes(1)).repeat(count)
 }

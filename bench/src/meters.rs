@@ -1,4 +1,4 @@
-//! Three ways to measure a call of each side.
+//! Three ways to measure a call of each side, or of ours alone.
 
 use std::hint::black_box;
 use std::time::Instant;
@@ -11,6 +11,8 @@ pub struct Pair {
 
 pub trait Meter {
     fn measure(&mut self, rust: impl FnMut(), ours: impl FnMut()) -> Pair;
+    /// Where the Rust has no such call.
+    fn alone(&mut self, ours: impl FnMut()) -> f64;
 }
 
 /// The sides take turns, a batch of calls each, so that whatever else the machine does meets both.
@@ -46,6 +48,11 @@ impl Meter for Clock {
             best.ours = best.ours.min(batch(calls.1, &mut ours) / f64::from(calls.1));
         }
         best
+    }
+
+    fn alone(&mut self, mut ours: impl FnMut()) -> f64 {
+        let calls = calls_of_batch(&mut ours);
+        (0..BATCHES).map(|_| batch(calls, &mut ours) / f64::from(calls)).fold(f64::MAX, f64::min)
     }
 }
 
@@ -87,6 +94,14 @@ impl Meter for Marks {
         count_mark_end();
         Pair { rust: 0.0, ours: 0.0 }
     }
+
+    fn alone(&mut self, mut ours: impl FnMut()) -> f64 {
+        (0..BEFORE).for_each(|_| ours());
+        count_mark_ours();
+        (0..CALLS).for_each(|_| ours());
+        count_mark_end();
+        0.0
+    }
 }
 
 /// The instructions that were counted between the marks, in the order of the calls.
@@ -115,5 +130,9 @@ impl Counted {
 impl Meter for Counted {
     fn measure(&mut self, _: impl FnMut(), _: impl FnMut()) -> Pair {
         Pair { rust: self.next("rust"), ours: self.next("ours") }
+    }
+
+    fn alone(&mut self, _: impl FnMut()) -> f64 {
+        self.next("ours")
     }
 }

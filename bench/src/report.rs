@@ -41,12 +41,12 @@ fn measure_row(row: &Row, meter: &mut impl Meter) -> Pair {
 }
 
 /// The figures of each group's rows.
-pub fn measure(groups: &[Group], mut meter: impl Meter) -> Vec<Vec<Pair>> {
-    groups.iter().map(|group| group.rows.iter().map(|row| measure_row(row, &mut meter)).collect()).collect()
+pub fn measure(groups: &[Group], meter: &mut impl Meter) -> Vec<Vec<Pair>> {
+    groups.iter().map(|group| group.rows.iter().map(|row| measure_row(row, meter)).collect()).collect()
 }
 
 /// One digit after the point of a small figure, none of another.
-fn figure(number: f64) -> String {
+pub fn figure(number: f64) -> String {
     if number < 100.0 {
         format!("{number:.1}")
     } else {
@@ -65,12 +65,16 @@ fn ratio(row: &Row, pair: &Pair) -> String {
     }
 }
 
+pub fn a_byte(number: f64, bytes: usize) -> String {
+    format!("{:.4}", number / bytes as f64)
+}
+
 /// In a group of growth, what a byte of the image costs too.
 fn line(group: &Group, row: &Row, pair: &Pair) -> Vec<String> {
     let bytes = row.image.len();
     let mut line = vec![row.name.to_string(), grouped(bytes), agreed(row), figure(pair.rust), figure(pair.ours), ratio(row, pair)];
     if group.growth {
-        line.extend([pair.rust, pair.ours].map(|number| format!("{:.4}", number / bytes as f64)));
+        line.extend([pair.rust, pair.ours].map(|number| a_byte(number, bytes)));
     }
     line
 }

@@ -73,6 +73,31 @@ fn heif() -> Vec<Row> {
     rows
 }
 
+/// What is listed, by ours alone: the Rust has no listing.
+pub struct Listed {
+    pub name: &'static str,
+    pub image: Vec<u8>,
+    /// The last line of the text.
+    pub last: String,
+}
+
+/// The longest image that is listed.
+const LONGEST_LISTED: usize = 65_536;
+
+/// Rows of the same name follow each other, each with ten times more of what the name says.
+pub fn listing() -> Vec<Listed> {
+    let row = |name, image: Vec<u8>| Listed { name, last: format!("end={} answer=0", image.len()), image };
+    let grown = |name, counts: [usize; 3], image: fn(usize) -> Vec<u8>| counts.map(|count| row(name, image(count)));
+    let mut rows = vec![row("H", every::h()), row("phone, without its `mdat`", PHONE.front())];
+    rows.extend(grown("boxes of 8 bytes", [81, 819, 8_192], images::small_boxes));
+    rows.extend(grown("boxes of 8 bytes, in 8 `moov`, one in another", [73, 811, 8_184], images::deep_boxes));
+    rows.extend(grown("9 boxes, one in another, again and again", [9, 91, 910], images::chains));
+    rows.push(row("one box", images::one_box(LONGEST_LISTED)));
+    let image = images::one_box(LONGEST_LISTED + 1);
+    rows.push(Listed { name: "one box, longer than is listed", image, last: format!("end={LONGEST_LISTED} answer=29") });
+    rows
+}
+
 const COUNTS: [usize; 3] = [1_000, 10_000, 100_000];
 const LENGTHS: [usize; 3] = [10_000, 100_000, 1_000_000];
 const ITEMS: [usize; 3] = [655, 6_553, 65_530];

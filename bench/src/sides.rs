@@ -7,10 +7,14 @@ use oracle::Error;
 extern "C" {
     fn coinbarrow_exif(image: *const u8, image_len: usize, out: *mut u8, out_len: usize) -> u64;
     fn coinbarrow_is_heif(bytes: *const u8, len: usize) -> bool;
+    fn coinbarrow_list(image: *const u8, image_len: usize, out: *mut u8, out_len: usize) -> usize;
 }
 
 /// Room for every block.
 pub const ROOM: usize = 65_536;
+
+/// Room for every text of the listing.
+pub const TEXT_ROOM: usize = 458_772;
 
 /// What the output holds before a call that is checked.
 const BEFORE: u8 = 0xa5;
@@ -38,6 +42,13 @@ pub fn our_is_heif(image: &[u8]) -> bool {
     unsafe { coinbarrow_is_heif(image.as_ptr(), image.len()) }
 }
 
+/// The length of the whole text.
+#[inline(always)]
+pub fn our_list(image: &[u8], out: &mut [u8]) -> usize {
+    // SAFETY: both are slices, and ours keeps neither.
+    unsafe { coinbarrow_list(image.as_ptr(), image.len(), out.as_mut_ptr(), out.len()) }
+}
+
 /// A call that does nothing: what calling adds to every figure.
 #[inline(never)]
 pub fn empty(_image: &[u8], _out: &mut [u8]) {
@@ -59,4 +70,14 @@ pub fn agreed_heif(name: &str, image: &[u8]) -> bool {
     let heif = rust_is_heif(image);
     assert_eq!(our_is_heif(image), heif, "{name}: ours has another answer");
     heif
+}
+
+/// The length of the text of a listing, once it is seen to end as it should and nothing is written behind it. Stops where it is not so.
+pub fn listed_text(name: &str, image: &[u8], last: &str) -> usize {
+    let mut out = vec![BEFORE; TEXT_ROOM];
+    let length = our_list(image, &mut out);
+    let text = std::str::from_utf8(&out[..length]).unwrap_or_else(|error| panic!("{name}: its text is none: {error}"));
+    assert_eq!(text.lines().last(), Some(last), "{name}: its text ends in another way");
+    assert!(out[length..].iter().all(|&byte| byte == BEFORE), "{name}: ours wrote behind the text");
+    length
 }

@@ -1,4 +1,5 @@
-/* Calls Coinbarrow on document 01's file H and on images near it, a line a call. The lines that it must print are in the file `stdout` beside it. */
+/* Calls Coinbarrow on document 01's file H and on images near it: a line a call, and the listings. What it must print is in the file `stdout` beside
+ * it. */
 #include <stdio.h>
 
 #include "coinbarrow.h"
@@ -64,6 +65,24 @@ static void call_longer(const char *name, size_t body, size_t room) {
     call(name, image, IDAT_BODY + body, room);
 }
 
+/* The listing, in the first `room` bytes of a buffer that holds a5 before the call, which no text has. As above, all its bytes are looked at. */
+static void list(const char *name, const uint8_t *image, size_t image_len, size_t room) {
+    static uint8_t buffer[COINBARROW_LONGEST_TEXT + SHOWN];
+    size_t i, length, changed = 0;
+    for (i = 0; i < sizeof buffer; i++) buffer[i] = 0xa5;
+    length = coinbarrow_list(image, image_len, room == 0 ? NULL : buffer, room);
+    for (i = 0; i < sizeof buffer; i++) changed += buffer[i] != 0xa5;
+    printf("%s, listed in %zu: length=%zu changed=%zu\n", name, room, length, changed);
+    printf("%.*s", (int)(length < room ? length : room), (const char *)buffer);
+    if (length > room) printf(" (cut)\n");
+}
+
+/* Zeros: one box, of type 0, that runs to the end. */
+static void list_zeros(const char *name, size_t length) {
+    static uint8_t zeros[COINBARROW_LONGEST_LISTED + 1];
+    list(name, zeros, length, COINBARROW_LONGEST_TEXT);
+}
+
 int main(void) {
     call("H", h, H_LEN, 8);
     call("H", h, H_LEN, 4);
@@ -79,5 +98,14 @@ int main(void) {
     call_longer("H with 65535 bytes in idat", 65535, COINBARROW_LONGEST);
     call_longer("H with 65535 bytes in idat", 65535, COINBARROW_LONGEST - 1);
     call_longer("H with 65536 bytes in idat", 65536, COINBARROW_LONGEST);
+    list("H", h, H_LEN, COINBARROW_LONGEST_TEXT);
+    list("H", h, H_LEN, 285);
+    list("H", h, H_LEN, 284);
+    list("H", h, H_LEN, 50);
+    list("H", h, H_LEN, 0);
+    list("H cut to 115 bytes", h, 115, COINBARROW_LONGEST_TEXT);
+    list("no image", NULL, 0, COINBARROW_LONGEST_TEXT);
+    list_zeros("65536 zeros", COINBARROW_LONGEST_LISTED);
+    list_zeros("65537 zeros", COINBARROW_LONGEST_LISTED + 1);
     return 0;
 }

@@ -1,8 +1,9 @@
-//! Coinbarrow from Rust: a safe function for each of the two that include/coinbarrow.h declares, tried on document 01's file H.
+//! Coinbarrow from Rust: a safe function for each of the three that include/coinbarrow.h declares, tried on document 01's file H.
 
 extern "C" {
     fn coinbarrow_exif(image: *const u8, image_len: usize, out: *mut u8, out_len: usize) -> u64;
     fn coinbarrow_is_heif(bytes: *const u8, bytes_len: usize) -> bool;
+    fn coinbarrow_list(image: *const u8, image_len: usize, out: *mut u8, out_len: usize) -> usize;
 }
 
 #[derive(Debug, PartialEq)]
@@ -30,6 +31,18 @@ fn is_heif(bytes: &[u8]) -> bool {
     unsafe { coinbarrow_is_heif(bytes.as_ptr(), bytes.len()) }
 }
 
+/// Room for the text of every image.
+const LONGEST_TEXT: usize = 458_772;
+
+/// The boxes of an image as text, a line a box.
+fn list(image: &[u8]) -> String {
+    let mut text = vec![0; LONGEST_TEXT];
+    // SAFETY: a slice, and a vector of its own, which overlaps nothing.
+    let length = unsafe { coinbarrow_list(image.as_ptr(), image.len(), text.as_mut_ptr(), text.len()) };
+    text.truncate(length);
+    String::from_utf8(text).expect("the text is letters, digits and signs")
+}
+
 /// One box a line.
 const H: &[u8] = b"\
     \0\0\0\x14ftypmif1\0\0\0\0mif1\
@@ -38,6 +51,16 @@ const H: &[u8] = b"\
     \0\0\0\x15infe\x02\0\0\0\0\x01\0\0Exif\0\
     \0\0\0\x20iloc\x01\0\0\0\x44\0\0\x01\0\x01\0\x01\0\0\0\x01\0\0\0\0\0\0\0\0\
     \0\0\0\x11idat\0\0\0\x01\xaa\x4d\x4d\0\x2a";
+
+const LISTED: &str = "\
+depth=0 at=0 type=66747970 header=8 body=12
+depth=0 at=20 type=6d657461 header=8 body=88
+depth=1 at=32 type=69696e66 header=8 body=27
+depth=2 at=46 type=696e6665 header=8 body=13
+depth=1 at=67 type=696c6f63 header=8 body=24
+depth=1 at=99 type=69646174 header=8 body=9
+end=116 answer=0
+";
 
 fn main() {
     let mut out = [0xa5; 8];
@@ -48,4 +71,7 @@ fn main() {
     assert_eq!(exif(&[], &mut []), Err(Refused::By(1)));
     assert!(is_heif(H));
     assert!(!is_heif(&H[..19]));
+    assert_eq!(list(H), LISTED);
+    assert_eq!(list(&[]), "end=0 answer=0\n");
+    assert_eq!(list(&[0; 65_537]), "end=65536 answer=29\n");
 }

@@ -6,7 +6,7 @@ use std::ffi::c_void;
 use std::hint::black_box;
 use std::sync::atomic::{AtomicUsize, Ordering::Relaxed};
 
-use bench::rows::{self, Row};
+use bench::rows::{self, Listed, Row};
 use bench::sides;
 use bench::table::{grouped, Table};
 
@@ -99,12 +99,21 @@ fn line(row: &Row) -> Vec<String> {
     [row.name.to_string()].into_iter().chain(figures.map(grouped)).collect()
 }
 
+fn listing_line(row: &Listed) -> Vec<String> {
+    let mut out = vec![0; sides::TEXT_ROOM];
+    let ours = memory(&mut || _ = black_box(sides::our_list(&row.image, &mut out)));
+    [row.name.to_string()].into_iter().chain([row.image.len(), ours.stack].map(grouped)).collect()
+}
+
 fn main() {
     let head =
         ["image", "stack, Rust", "stack, ours", "heap, Rust", "allocations, Rust", "stack of `is_heif`, Rust", "stack of `is_heif`, ours"];
     let mut table = Table::new("Extraction, and the stack of `is_heif`", head.map(str::to_string).to_vec());
     rows::extraction().iter().for_each(|row| table.add(line(row)));
+    let mut listing = Table::new("The listing", ["image", "bytes", "stack"].map(str::to_string).to_vec());
+    rows::listing().iter().for_each(|row| listing.add(listing_line(row)));
     let own = memory(&mut || sides::empty(black_box(&[]), black_box(&mut []))).stack;
     println!("MEMORY a call, in bytes: how deep the stack was written, {own} for an empty call; what was held of the heap at most.\n");
     table.print();
+    listing.print();
 }

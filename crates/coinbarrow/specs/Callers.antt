@@ -1,13 +1,21 @@
--- What include/coinbarrow.h tells callers of the number, for every call of `coinbarrow_exif`, from its contract alone: `r` is what a call gives
--- back, `after` the output after it.
-use mathlib.Core.Path.{_≡_, ap}
-use Prim.Native.Nat.{ℕ, _+_, _*_, _/_, _%_, _^_, _≤_}
+-- What include/coinbarrow.h tells callers of the number and of the text, for every call, from the contracts alone: `r` is what a call gives back,
+-- `after` the output after it.
+use mathlib.Core.Path.{_≡_, ap, _∙_}
+use Prim.Native.Nat.{ℕ, _+_, _*_, _/_, _%_, _^_, _≤_, _<_}
 use native.Mathlib.Omega.{arith}
-use mathlib.Core.List.{List}
-use lib.ListN.{length}
+use mathlib.Core.List.{List, _++_, append-nil}
+use lib.ListN.{length, take, drop, drop-of-length-le}
+use lib.Seq.{take-all}
 use Rattle.rules.specs.Doc.Answers.{Answer, answer}
+use Rattle.rules.specs.Doc.Text.{ascii}
+use Rattle.rules.specs.Doc.Listing.{newline, listing, printed}
+use Rattle.rules.specs.Unfold.{document}
 use Rattle.rules.specs.Demands.One.{length-limit, number-limit, always-room}
+use Rattle.rules.specs.Laws.ListingLength.{listing-length}
+use Rattle.listing.specs.Whole.{too-long}
 use Rattle.coinbarrow.specs.Halves.{unpacked}
+
+-- ---- The number that `coinbarrow_exif` gives back
 
 module _ (img out : List ℕ) (r : ℕ) (after : List ℕ) (meets : unpacked r after ≡ answer img out) where
   upper : r / 2 ^ 32 ≡ answer img out .number
@@ -30,3 +38,29 @@ module _ (img out : List ℕ) (r : ℕ) (after : List ℕ) (meets : unpacked r a
   -- An output of 65,531 bytes always has room.
   pub enough-room : 65531 ≤ length out → r / 2 ^ 32 ≡ 28 → ⊥
   enough-room h e = always-room img out h (omega (arith, upper))
+
+-- ---- The text that `coinbarrow_list` writes
+
+-- Of an image that is longer than 65,536 bytes it is this line.
+pub text-too-long : (img : List ℕ) → 65536 < length img → listing img ≡ ascii "end=65536 answer=29" ++ newline
+unfolding document
+text-too-long img h = too-long img h
+
+module _ (img out : List ℕ) (r : ℕ) (after : List ℕ) (meets : (r ≡ length (listing img)) × (after ≡ printed (listing img) out)) where
+  -- It is at most 458,772 bytes long.
+  pub text-limit : r ≤ 458772
+  text-limit = omega (arith, meets .0, listing-length img)
+
+  -- An output that is as long as the text, or longer, holds all of it, and is unchanged behind it.
+  pub text-whole : r ≤ length out → after ≡ listing img ++ drop r out
+  unfolding printed
+  text-whole h = meets .1 ∙ rw (take-all (length out) (listing img) (omega (arith, meets .0)), meets .0)
+
+  -- One of 458,772 bytes always does.
+  pub text-always-whole : 458772 ≤ length out → after ≡ listing img ++ drop r out
+  text-always-whole h = text-whole (omega (arith, text-limit))
+
+  -- A shorter one holds as much of its front as it has bytes.
+  pub text-cut : length out ≤ r → after ≡ take (length out) (listing img)
+  unfolding printed
+  text-cut h = meets .1 ∙ rw (← meets .0, drop-of-length-le out h) (append-nil _)

@@ -1,10 +1,13 @@
--- No two outcomes, number and output together, meet a contract of this crate.
+-- No two outcomes, answer and output together, meet a contract of this crate.
 use mathlib.Core.Path.{_≡_, sym, ap, _∙_}
 use mathlib.Core.Bool.{Bool}
 use mathlib.Core.List.{List}
 use Prim.Native.Nat.{ℕ}
+use lib.ListN.{length}
 use Rattle.rules.specs.Doc.Answers.{Answer, answer}
 use Rattle.rules.specs.Doc.Heif.{isHeif}
+use Rattle.rules.specs.Doc.Listing.{listing, printed}
+use Rattle.listing.specs.Unique.{list-one as boxes-one}
 use Rattle.coinbarrow.specs.Halves.{unpacked}
 use Rattle.coinbarrow.specs.Callers.{is-sum}
 
@@ -16,3 +19,8 @@ exif-one img out r s after after′ e f = (is-sum img out r after e ∙ sym (is-
 -- of `coinbarrow_is_heif`
 pub heif-one : (bytes : List ℕ) {x y : Bool} → x ≡ isHeif bytes → y ≡ isHeif bytes → x ≡ y
 heif-one bytes e f = e ∙ sym f
+
+-- of `coinbarrow_list`, whose contract is that of `list_boxes`
+pub list-one : (image out : List ℕ) {r r′ : ℕ} {after after′ : List ℕ} → (r ≡ length (listing image)) × (after ≡ printed (listing image) out)
+    → (r′ ≡ length (listing image)) × (after′ ≡ printed (listing image) out) → (r ≡ r′) × (after ≡ after′)
+list-one image out = boxes-one image out

@@ -1,8 +1,10 @@
 // The functions for C and Rust, which include/coinbarrow.h declares.
 ghost use mathlib.Core.Path.{_≡_};
 ghost use Prim.Native.Nat.{_/_, _%_, _^_, _<_};
+ghost use lib.ListN.{length};
 ghost use Rattle.rules.specs.Doc.Answers.{answer};
 ghost use Rattle.rules.specs.Doc.Heif.{isHeif};
+ghost use Rattle.rules.specs.Doc.Listing.{listing, printed};
 ghost use Rattle.coinbarrow.specs.Halves.{unpacked};
 use boxes::Refusal;
 use join::Extracted;
@@ -33,4 +35,13 @@ pub extern "C" fn coinbarrow_is_heif(bytes: &[u8]) -> bool
     ensures { λ r. ⌜ r ≡ isHeif (now (bytes .entry)) ⌝ }
 {
     brands::is_heif(bytes)
+}
+
+// The listing of `image` goes to the front of `out`, as much of it as there is room for. The answer is the length of all of it.
+#[no_mangle]
+pub extern "C" fn coinbarrow_list(image: &[u8], out: &mut [u8]) -> usize
+    ensures { λ r. ⌜ r ≡ length (listing (now (image .entry))) ⌝ }
+    ensures { λ r. ⌜ now (out .exit) ≡ printed (listing (now (image .entry))) (now (out .entry)) ⌝ }
+{
+    listing::list_boxes(image, out)
 }

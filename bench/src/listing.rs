@@ -1,0 +1,42 @@
+//! The listing, which only ours has: measured, and the table of its figures.
+
+use std::hint::black_box;
+
+use bench::rows::{self, Listed};
+use bench::sides;
+use bench::table::{grouped, Table};
+
+use crate::meters::Meter;
+use crate::report::{a_byte, figure};
+
+pub struct Figure {
+    row: Listed,
+    /// The length of its text.
+    text: usize,
+    number: f64,
+}
+
+/// Each text is seen to end as it should before its call is measured. The output is made once and not cleared between calls.
+fn measure_row(row: Listed, meter: &mut impl Meter) -> Figure {
+    let text = sides::listed_text(row.name, &row.image, &row.last);
+    let mut out = vec![0; sides::TEXT_ROOM];
+    let number = meter.alone(|| _ = black_box(sides::our_list(black_box(&row.image), black_box(&mut out))));
+    Figure { row, text, number }
+}
+
+/// The images are made only now, so that the Rust, which allocates, found the heap as it would have without them.
+pub fn measure(meter: &mut impl Meter) -> Vec<Figure> {
+    rows::listing().into_iter().map(|row| measure_row(row, meter)).collect()
+}
+
+pub fn print(figures: &[Figure], unit: &str) {
+    let mut head = ["image", "bytes", "bytes of text"].map(str::to_string).to_vec();
+    head.extend([format!("ours, {unit}"), format!("{unit} a byte of text"), format!("{unit} a byte of the image")]);
+    let mut table = Table::new("The listing", head);
+    for Figure { row, text, number } in figures {
+        let bytes = row.image.len();
+        let sizes = [row.name.to_string(), grouped(bytes), grouped(*text)];
+        table.add(sizes.into_iter().chain([figure(*number), a_byte(*number, *text), a_byte(*number, bytes)]).collect());
+    }
+    table.print();
+}
