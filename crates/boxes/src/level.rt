@@ -45,6 +45,9 @@ pub const FTYP: u32 = 0x66747970;
 
 pub const META: u32 = 0x6d657461;
 
+// The table of items: extraction reads it as a child of `meta`, the listing opens it wherever it stands.
+pub const IINF: u32 = 0x69696e66;
+
 // A body of this size or more is too large to skip.
 const LARGE: u64 = 0x8000_0000_0000_0000;
 

@@ -15,6 +15,7 @@ pub use level::ADDRESS_MAX;
 pub use level::Child;
 pub use level::FTYP;
 pub use level::FileBox;
+pub use level::IINF;
 pub use level::META;
 pub use level::child_box;
 pub use level::file_box;

@@ -5,12 +5,11 @@ ghost use Rattle.isobmff.specs.Told.{stateOf, metOf, keptOf};
 ghost use Rattle.isobmff.specs.Children.{childrenOver, afterwards};
 use boxes::Child;
 use boxes::Header;
+use boxes::IINF;
 use boxes::Number;
 use boxes::Refusal;
 use items::Ids;
 use items::ItemId;
-
-const IINF: u32 = 0x69696e66;
 
 const ILOC: u32 = 0x696c6f63;
 

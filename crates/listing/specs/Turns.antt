@@ -20,8 +20,8 @@ pub record Turn (levels : ℕ) (s : List ℕ) (at kind from to : ℕ) : Type 0 w
   pub ahead : at + 8 ≤ from
   pub order : from ≤ to
   pub inner : to ≤ length s
-  pub less : length s - to < length s - at
-  pub splits : listRun levels s at ≡ line (lineOf (depthOver levels) (boxOf at kind from to)) (openBox levels s (boxOf at kind from to) then listRun levels s to)
+  pub splits : listRun levels s at
+      ≡ line (lineOf (depthOver levels) (boxOf at kind from to)) (openBox levels s (boxOf at kind from to) then listRun levels s to)
 
 module _ (levels : ℕ) (s : List ℕ) (at : ℕ) (more : at < length s) where
   pub turn-refused : {n : ℕ} → refused n ≡ childAt s at → listRun levels s at ≡ fault at n
@@ -32,7 +32,7 @@ module _ (levels : ℕ) (s : List ℕ) (at : ℕ) (more : at < length s) where
   unfolding met
   turn-box b =
       let i = child-inside s at (b .is) in
-      record { ahead = i .ahead; order = b .order; inner = b .inner; less = b .less; splits = run-next levels s at more ∙ rw (← b .is) }
+      record { ahead = i .ahead; order = b .order; inner = b .inner; splits = run-next levels s at more ∙ rw (← b .is) }
 
 module _ (levels : ℕ) (s : List ℕ) (b : Box) where
   pub box-deepest : levels ≡ 0 → openBox levels s b ≡ finished

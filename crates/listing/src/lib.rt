@@ -6,7 +6,7 @@ ghost use mathlib.Core.Path.{_≡_};
 ghost use mathlib.Core.List.{_++_};
 ghost use Prim.Native.Nat.{_+_, _^_, _≤_, _<_};
 ghost use lib.ListN.{length, drop};
-ghost use Rattle.rules.specs.Doc.Listing.{openBox, listRun, listing, printed};
+ghost use Rattle.rules.specs.Doc.Listing.{deepest, openBox, listRun, listing, printed};
 ghost use Rattle.rules.specs.Laws.Listing.{linesText};
 ghost use Rattle.listing.specs.Told.{boxIn};
 ghost use Rattle.listing.specs.Lines.{Lines};
@@ -47,7 +47,7 @@ pub(crate) enum Listed {
 
 // The boxes from a position to the end of `s`, with so many levels under them that may be opened.
 fn list_run(s: &[u8], from: usize, levels: usize, out: &mut [u8], text: usize) -> Listed
-    requires { ⌜ levels ≤ 8 ⌝ }
+    requires { ⌜ levels ≤ deepest ⌝ }
     requires { ⌜ text + length (linesText (listRun levels (now s) from)) < 2 ^ 64 ⌝ }
     ensures { λ r. ⌜ Lines (listRun levels (now (s .entry)) from) text (now (out .entry)) r (now (out .exit)) ⌝ }
 {
@@ -92,7 +92,7 @@ fn list_run(s: &[u8], from: usize, levels: usize, out: &mut [u8], text: usize) -
 // What stands in one box. The bytes around its children end where it does, so that places still count from the start of the image.
 fn open_box(s: &[u8], found: Found, levels: usize, out: &mut [u8], text: usize) -> Listed
     requires { ⌜ (found .from ≤ found .to) × (found .to ≤ length (now s)) ⌝ }
-    requires { ⌜ levels ≤ 8 ⌝ }
+    requires { ⌜ levels ≤ deepest ⌝ }
     requires { ⌜ text + length (linesText (openBox levels (now s) (boxIn found))) < 2 ^ 64 ⌝ }
     ensures { λ r. ⌜ Lines (openBox levels (now (s .entry)) (boxIn found)) text (now (out .entry)) r (now (out .exit)) ⌝ }
 {

@@ -7,6 +7,7 @@ ghost use Rattle.rules.specs.Doc.Lists.{any};
 ghost use Rattle.rules.specs.Doc.Listing.{holders, behind as Listing·behind, behindCount, opening as Listing·opening};
 ghost use Rattle.listing.specs.Told.{boxIn, starts};
 use crate::Found;
+use boxes::IINF;
 use boxes::META;
 use boxes::Number;
 use boxes::Refusal;
@@ -26,8 +27,6 @@ const STBL: u32 = 0x7374626c;
 const IPRP: u32 = 0x69707270;
 
 const IPCO: u32 = 0x6970636f;
-
-const IINF: u32 = 0x69696e66;
 
 // Whether a box holds boxes and nothing else.
 fn holds_boxes(kind: u32) -> bool

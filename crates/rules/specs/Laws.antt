@@ -23,4 +23,5 @@ pub mod Refusals
 pub mod Text
 pub mod Moved
 pub mod Listing
+pub mod ListingRow
 pub mod ListingLength

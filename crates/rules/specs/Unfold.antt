@@ -15,7 +15,8 @@ use Rattle.rules.specs.Doc.Heif.{heifLevel, isHeif}
 use Rattle.rules.specs.Doc.Answers.{handed, answerWith, answer}
 use Rattle.rules.specs.Doc.Consulted.{spanBytes, boxBytes, cutBytes, walkBytes, metaBytes, shift, consulted}
 use Rattle.rules.specs.Doc.Text.{digit, hex, decimalTo, decimal}
-use Rattle.rules.specs.Doc.Listing.{lineOf, _then_, holders, behind, behindCount, opening, met, rowOf, runOf, childrenOf, openBox, listRun, frontText, lineText, lastText, textOf, listing, printed}
+use Rattle.rules.specs.Doc.Listing.{lineOf, _then_, holders, behind, behindCount, opening, met}
+use Rattle.rules.specs.Doc.Listing.{rowOf, runOf, childrenOf, openBox, listRun, frontText, lineText, lastText, textOf, listing, printed}
 
 -- For proofs that compute: `unfolding document` opens every definition of document 01.
 unfoldable pub document : Unit {0}

@@ -135,7 +135,9 @@ module _ (t : ℕ) where
   run-enum-known-next c = search needs
 
   run-loop-less : run.Need-loop-less run-calls run-here list-run.Post Inv-loop μ-loop
-  run-loop-less c = box (c .before .before .before .before .before .before .before .before .before .before .before .before) .less
+  run-loop-less c =
+      let b = box (c .before .before .before .before .before .before .before .before .before .before .before .before) in
+      omega (arith, b .ahead, b .order, b .inner)
 
   run-loop-again : run.Need-loop-again run-calls run-here list-run.Post Inv-loop μ-loop
   run-loop-again c =

@@ -44,7 +44,7 @@ finished then b = b
 abbrev pub letters : String → ℕ
 letters name = numberAt (ascii name) 0 4
 
--- At once.
+-- Opened at once: their bodies are boxes and nothing else.
 unfoldable pub holders : List ℕ
 holders =
     letters "moov" ∷ letters "trak" ∷ letters "mdia" ∷ letters "minf" ∷ letters "dinf" ∷ letters "stbl" ∷ letters "iprp" ∷ letters "ipco" ∷ []
@@ -114,6 +114,7 @@ newline = 10 ∷ []
 abbrev pub named : String → ℕ → List ℕ
 named name n = ascii name ++ decimal n
 
+-- where a box is, and its type
 unfoldable pub frontText : ℕ → ℕ → ℕ → List ℕ
 frontText depth at kind = named "depth=" depth ++ named " at=" at ++ ascii " type=" ++ hex 8 kind
 

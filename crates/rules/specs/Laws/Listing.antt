@@ -13,7 +13,8 @@ use Rattle.rules.specs.Doc.Lists.{any}
 use Rattle.rules.specs.Doc.Bytes.{sizeOf, bytesIn, version}
 use Rattle.rules.specs.Doc.Headers.{meta, iinf, Box, is, childAt}
 use Rattle.rules.specs.Doc.Iinf.{countSize}
-use Rattle.rules.specs.Doc.Listing.{Listing, finished, fault, line, _then_, holders, behind, behindCount, opening, met, rowOf, runOf, childrenOf, depthOver, openBox, listRun, lineText, textOf}
+use Rattle.rules.specs.Doc.Listing.{Listing, finished, fault, line, _then_, holders, behind, behindCount, opening}
+use Rattle.rules.specs.Doc.Listing.{met, rowOf, runOf, childrenOf, depthOver, openBox, listRun, lineText, textOf}
 use Rattle.rules.specs.Laws.Rows.{by-test}
 use Rattle.rules.specs.Laws.Headers.{child-inside}
 
@@ -68,7 +69,8 @@ then-longer (line x a) b = simp length-append (omega (arith, then-longer a b))
 -- ---- A run of boxes
 
 module _ (depth : ℕ) (inner : Box → Listing) (s : List ℕ) where
-  met-cong : (at : ℕ) (o : Outcome Box) → o ≡ childAt s at → (f g : ℕ → Listing) → ((q : ℕ) → at < q → f q ≡ g q) → met depth at o inner f ≡ met depth at o inner g
+  met-cong : (at : ℕ) (o : Outcome Box) → o ≡ childAt s at → (f g : ℕ → Listing) → ((q : ℕ) → at < q → f q ≡ g q)
+      → met depth at o inner f ≡ met depth at o inner g
   unfolding met
   met-cong at (refused k) c f g e = refl
   met-cong at (fine b) c f g e =
@@ -86,7 +88,8 @@ module _ (depth : ℕ) (inner : Box → Listing) (s : List ℕ) where
       (met-cong at (childAt s at) refl (rowOf depth inner s n) (rowOf depth inner s m) (λ q j. enough n m q (omega arith) (omega arith)))
 
 module _ (levels : ℕ) (s : List ℕ) (at : ℕ) where
-  unroll : listRun levels s at ≡ (if leb (length s) at then finished else met (depthOver levels) at (childAt s at) (openBox levels s) (listRun levels s))
+  unroll : listRun levels s at
+      ≡ (if leb (length s) at then finished else met (depthOver levels) at (childAt s at) (openBox levels s) (listRun levels s))
   unfolding listRun runOf rowOf
   unroll = enough (depthOver levels) (openBox levels s) s (length s) (suc (length s)) at (omega arith) (omega arith)
 
@@ -107,7 +110,8 @@ module _ (s : List ℕ) (b : Box) where
   unfolding openBox listRun
   open-more levels = refl
 
-  pub open-fewer : (levels : ℕ) → (levels ≡ 0 → ⊥) → openBox levels s b ≡ childrenOf (b .start) (opening s b) (listRun (levels - 1) (take (b .body .to) s))
+  pub open-fewer : (levels : ℕ) → (levels ≡ 0 → ⊥)
+      → openBox levels s b ≡ childrenOf (b .start) (opening s b) (listRun (levels - 1) (take (b .body .to) s))
   open-fewer zero h = absurd (h refl)
   open-fewer (suc levels) h = let e : suc levels - 1 ≡ levels = omega arith in rw e (open-more levels)
 

@@ -5,7 +5,7 @@ use native.Mathlib.Omega.{arith}
 use native.Mathlib.Nat.{add-assoc, zero-sub, sub-zero}
 use mathlib.Core.Bool.{Bool, true, false}
 use mathlib.Core.Option.{Option, none, some, Option·map}
-use mathlib.Core.List.{List, [], _∷_}
+use mathlib.Core.List.{List, [], _∷_, map}
 use lib.ListN.{length, take, drop, length-drop}
 use lib.Seq.{getD-drop, take-nil}
 use lib.Dec.{leb, ltb, eqb}
@@ -16,6 +16,7 @@ use Rattle.rules.specs.Doc.Headers.{Header, headerOf, headerAt, bodySize
 use Rattle.rules.specs.Doc.Join.{moved}
 use Rattle.rules.specs.Laws.Rows.{bind-assoc}
 use Rattle.rules.specs.Laws.Headers.{none-short, none-long, some-long, some-short}
+use Rattle.rules.specs.Laws.BoxRow.{Row}
 
 unfoldable movedHeader : ℕ → Header → Header
 movedHeader k h = record { start = k + h .start; size = h .size; kind = h .kind; large = h .large; width = h .width }
@@ -109,3 +110,10 @@ drop-take (suc f) (suc t) [] = take-nil (suc t - suc f)
 drop-take (suc f) (suc t) (x ∷ s) =
     let e : suc t - suc f ≡ t - f = omega arith in
     rw e (drop-take f t s)
+
+-- whole boxes of what follows k bytes are whole boxes of all, moved
+pub row-moved : (k : ℕ) (s : List ℕ) → k ≤ length s → (at : ℕ) (bs : List Box) (to : ℕ) → Row (childAt (drop k s)) at bs to
+    → Row (childAt s) (k + at) (map (movedBox k) bs) (k + to)
+unfolding movedBox moved
+row-moved k s h at [] to r = rw r
+row-moved k s h at (b ∷ bs) to r = (rw (child-moved k s h at, ← (r .0)), row-moved k s h (b .body .to) bs to (r .1))
