@@ -68,9 +68,14 @@ bool coinbarrow_is_heif(const uint8_t *bytes, size_t bytes_len);
  * the boxes inside it follow, if it is a `moov`, `trak`, `mdia`, `minf`, `dinf`, `stbl`, `iprp`, `ipco`, `meta` or `iinf`, and its depth is below 8.
  * The last line is one of
  *
- *   end=116 answer=0       all was read; the image has 116 bytes
- *   end=20 answer=3        the box at 20 can't be read or opened; the number says why, as above
+ *   end=116 answer=0       the boxes fill the image, which has 116 bytes
+ *   end=20 answer=3        the box at 20 can't be read, and has no line, or can't be opened, and has one: it doesn't fit into what it is in, or is
+ *                          too short to be opened
+ *   end=20 answer=4        the box at 20 has a size that no box has, and no line
  *   end=65536 answer=29    the image is longer than COINBARROW_LONGEST_LISTED; it is the only line
+ *
+ * With an `out_len` of 0 the call only tells the length. To list the front of a longer image, pass COINBARROW_LONGEST_LISTED as `image_len`: the
+ * listing then ends with 3 at the box that is cut.
  */
 size_t coinbarrow_list(const uint8_t *image, size_t image_len, uint8_t *out, size_t out_len);
 

@@ -84,7 +84,7 @@ pub struct Listed {
 /// The longest image that is listed.
 const LONGEST_LISTED: usize = 65_536;
 
-/// Rows of the same name follow each other, each with ten times more of what the name says.
+/// Rows of the same name follow each other, each with about ten times as many boxes.
 pub fn listing() -> Vec<Listed> {
     let row = |name, image: Vec<u8>| Listed { name, last: format!("end={} answer=0", image.len()), image };
     let grown = |name, counts: [usize; 3], image: fn(usize) -> Vec<u8>| counts.map(|count| row(name, image(count)));

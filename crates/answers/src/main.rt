@@ -30,7 +30,11 @@ fn answer(image: &[u8], out: &mut [u8], text: &mut [u8]) -> bool {
 
 // Reads one case and answers it, and says whether to go on.
 fn one(case: u64, image: &mut [u8], out: &mut [u8], text: &mut [u8]) -> bool {
-    let Next::Case { image: n, out: m } = case_reader::next_case(case, image, out.len()) else {
+    let Next::Case {
+        image_len: n,
+        out_len: m,
+    } = case_reader::next_case(case, image, out.len())
+    else {
         return false;
     };
     answer(&image[..n], &mut out[..m], text)

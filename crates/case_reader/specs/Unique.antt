@@ -1,4 +1,5 @@
--- No two outcomes meet the contract of `fill`. That of `next_case` can't have one alone: what is read on standard input has no name in a contract.
+-- No two outcomes meet the contract of `fill`. That of `next_case` determines neither its answer nor the bytes of the image: what is read on
+-- standard input has no name in a contract.
 use mathlib.Core.Path.{_≡_, sym, _∙_}
 use mathlib.Core.List.{List}
 use Prim.Native.Nat.{ℕ}

@@ -8,7 +8,7 @@ use libc::STDOUT_FILENO;
 
 // The two lengths of a case; or the run is over.
 pub enum Next {
-    Case { image: usize, out: usize },
+    Case { image_len: usize, out_len: usize },
     Over,
 }
 
@@ -22,7 +22,7 @@ fn stop(case: u64, why: &[u8]) -> Next
     Next::Over
 }
 
-// Reads the case of that number, its image to the front of `image`. Its output may have `most` bytes. A run that is over too soon, because the
+// Reads the case of that number, its image to the front of `image`. Its output may have `most` bytes at most. A run that is over too soon, because the
 // input ends inside the case or a length is more than is taken, says so by a line on standard output.
 pub fn next_case(case: u64, image: &mut [u8], most: usize) -> Next
     ensures { λ r. ⌜ Within (length (now (image .exit))) most r ⌝ }
@@ -43,7 +43,10 @@ pub fn next_case(case: u64, image: &mut [u8], most: usize) -> Next
     if io::read_full(STDIN_FILENO, &mut image[..n]) < n {
         return stop(case, b" cut\n");
     }
-    Next::Case { image: n, out: m }
+    Next::Case {
+        image_len: n,
+        out_len: m,
+    }
 }
 
 // What an output holds before it is lent: one byte everywhere, so that what was written and what was left alone can be told apart.

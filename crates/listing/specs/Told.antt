@@ -20,11 +20,11 @@ starts i.Leaf = fine none
 starts (i.Children from) = fine (some from)
 starts (i.Refused e) = refused (number e)
 
--- how a listing ended, and where its lines did
+-- how a listing ended, and how much text was written
 abbrev pub told : Listed → Listing
-told (l.Whole n) = finished
+told (l.Finished n) = finished
 told (l.Fault n at e) = fault at (number e)
 
 abbrev pub textEnd : Listed → ℕ
-textEnd (l.Whole n) = n
+textEnd (l.Finished n) = n
 textEnd (l.Fault n at e) = n

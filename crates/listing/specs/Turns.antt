@@ -5,7 +5,7 @@ use mathlib.Core.List.{List}
 use lib.ListN.{length, take}
 use Rattle.rules.specs.Doc.Outcomes.{refused}
 use Rattle.rules.specs.Doc.Headers.{Box, boxOf, childAt}
-use Rattle.rules.specs.Doc.Listing.{lineOf, finished, fault, line, _then_, opening, met, childrenOf, depthOver, openBox, listRun}
+use Rattle.rules.specs.Doc.Listing.{lineOf, finished, fault, line, _then_, opening, listedAt, childrenOf, depthOver, openBox, listRun}
 use Rattle.rules.specs.Laws.Headers.{child-inside}
 use Rattle.rules.specs.Laws.Listing.{run-next, open-none, open-fewer}
 use Rattle.boxes.specs.Told.{number}
@@ -15,7 +15,7 @@ use Rattle.listing.specs.declared.opening.Inner.{Inner}
 use Rattle.listing.specs.declared.opening.Inner.the-variants.{Leaf, Children, Refused}
 use Rattle.listing.specs.Told.{starts}
 
--- A turn that met a whole box: where the box lies, and that what is listed is its line, what stands in it, and the rest of the run.
+-- A turn that listedAt a whole box: where the box lies, and that what is listed is its line, what stands in it, and the rest of the run.
 pub record Turn (levels : ℕ) (s : List ℕ) (at kind from to : ℕ) : Type 0 where
   pub ahead : at + 8 ≤ from
   pub order : from ≤ to
@@ -25,11 +25,11 @@ pub record Turn (levels : ℕ) (s : List ℕ) (at kind from to : ℕ) : Type 0 w
 
 module _ (levels : ℕ) (s : List ℕ) (at : ℕ) (more : at < length s) where
   pub turn-refused : {n : ℕ} → refused n ≡ childAt s at → listRun levels s at ≡ fault at n
-  unfolding met
+  unfolding listedAt
   turn-refused e = run-next levels s at more ∙ rw (← e)
 
   pub turn-box : {kind from to : ℕ} → WholeBox s at kind from to → Turn levels s at kind from to
-  unfolding met
+  unfolding listedAt
   turn-box b =
       let i = child-inside s at (b .is) in
       record { ahead = i .ahead; order = b .order; inner = b .inner; splits = run-next levels s at more ∙ rw (← b .is) }

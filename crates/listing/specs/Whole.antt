@@ -41,8 +41,8 @@ module _ (image : List ℕ) (h : length image ≤ longest) where
   -- once the lines are written, the last line is that of how they ended
   module _ {before between : List ℕ} {r : Listed} (lines : Lines (listRun deepest image 0) 0 before r between) where
     pub room-last : textEnd r + length (textOf (length image) (told r)) < 2 ^ 64
-    room-last = rw (lines .end) (room-then (lines .text) (textOf (length image) (ending (listRun deepest image 0))) room-parts)
+    room-last = rw (lines .ends) (room-then (lines .text) (textOf (length image) (ending (listRun deepest image 0))) room-parts)
 
     pub whole : {end : ℕ} {after : List ℕ} → Wrote (textOf (length image) (told r)) (textEnd r) between end after
         → (end ≡ length (listing image)) × (after ≡ printed (listing image) before)
-    whole w = from-front (rw two-parts (wrote-then (lines .text) (rw (lines .end) at w)))
+    whole w = from-front (rw two-parts (wrote-then (lines .text) (rw (lines .ends) at w)))

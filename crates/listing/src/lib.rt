@@ -35,29 +35,29 @@ pub(crate) struct Found {
     to: usize,
 }
 
-// Where the lines end; and, if not all was read, the start of the box that couldn't be read or opened, and why.
+// How much text is written, past the end of the buffer too; and, at a fault, the start of the box that couldn't be read or opened, and why.
 pub(crate) enum Listed {
-    Whole(usize),
+    Finished(usize),
     Fault {
-        text: usize,
+        written: usize,
         at: usize,
         answer: Refusal,
     },
 }
 
-// The boxes from a position to the end of `s`, with so many levels under them that may be opened.
-fn list_run(s: &[u8], from: usize, levels: usize, out: &mut [u8], text: usize) -> Listed
+// The boxes from a position to the end of `s`, with so many levels under them that may be opened. So much text is written already.
+fn list_run(s: &[u8], from: usize, levels: usize, out: &mut [u8], written: usize) -> Listed
     requires { ⌜ levels ≤ deepest ⌝ }
-    requires { ⌜ text + length (linesText (listRun levels (now s) from)) < 2 ^ 64 ⌝ }
-    ensures { λ r. ⌜ Lines (listRun levels (now (s .entry)) from) text (now (out .entry)) r (now (out .exit)) ⌝ }
+    requires { ⌜ written + length (linesText (listRun levels (now s) from)) < 2 ^ 64 ⌝ }
+    ensures { λ r. ⌜ Lines (listRun levels (now (s .entry)) from) written (now (out .entry)) r (now (out .exit)) ⌝ }
 {
     let mut at = from;
-    let mut end = text;
+    let mut so_far = written;
     while at < s.len() {
         match boxes::child_box(s, Header::read(s, at)) {
             Child::Refused(e) => {
                 return Listed::Fault {
-                    text: end,
+                    written: so_far,
                     at: at,
                     answer: e,
                 };
@@ -69,46 +69,50 @@ fn list_run(s: &[u8], from: usize, levels: usize, out: &mut [u8], text: usize) -
                     from: from,
                     to: to,
                 };
-                let behind = put_line(DEEPEST - levels, found, out, end);
-                match open_box(s, found, levels, out, behind) {
-                    Listed::Fault { text, at, answer } => {
+                let after_line = put_line(DEEPEST - levels, found, out, so_far);
+                match open_box(s, found, levels, out, after_line) {
+                    Listed::Fault {
+                        written,
+                        at,
+                        answer,
+                    } => {
                         return Listed::Fault {
-                            text: text,
+                            written: written,
                             at: at,
                             answer: answer,
                         };
                     }
-                    Listed::Whole(next) => {
-                        end = next;
+                    Listed::Finished(after_box) => {
+                        so_far = after_box;
                         at = to;
                     }
                 }
             }
         }
     }
-    Listed::Whole(end)
+    Listed::Finished(so_far)
 }
 
 // What stands in one box. The bytes around its children end where it does, so that places still count from the start of the image.
-fn open_box(s: &[u8], found: Found, levels: usize, out: &mut [u8], text: usize) -> Listed
+fn open_box(s: &[u8], found: Found, levels: usize, out: &mut [u8], written: usize) -> Listed
     requires { ⌜ (found .from ≤ found .to) × (found .to ≤ length (now s)) ⌝ }
     requires { ⌜ levels ≤ deepest ⌝ }
-    requires { ⌜ text + length (linesText (openBox levels (now s) (boxIn found))) < 2 ^ 64 ⌝ }
-    ensures { λ r. ⌜ Lines (openBox levels (now (s .entry)) (boxIn found)) text (now (out .entry)) r (now (out .exit)) ⌝ }
+    requires { ⌜ written + length (linesText (openBox levels (now s) (boxIn found))) < 2 ^ 64 ⌝ }
+    ensures { λ r. ⌜ Lines (openBox levels (now (s .entry)) (boxIn found)) written (now (out .entry)) r (now (out .exit)) ⌝ }
 {
     if levels == 0 {
-        return Listed::Whole(text);
+        return Listed::Finished(written);
     }
     match opening(s, found) {
-        Inner::Leaf => Listed::Whole(text),
+        Inner::Leaf => Listed::Finished(written),
         Inner::Refused(e) => Listed::Fault {
-            text: text,
+            written: written,
             at: found.start,
             answer: e,
         },
         Inner::Children(from) => {
             let to = found.to;
-            list_run(&s[..to], from, levels - 1, out, text)
+            list_run(&s[..to], from, levels - 1, out, written)
         }
     }
 }
@@ -122,8 +126,12 @@ pub fn list_boxes(image: &[u8], out: &mut [u8]) -> usize
         return put_last(LONGEST, Refusal::ListingTooLong.number() as usize, out, 0);
     }
     match list_run(image, 0, DEEPEST, out, 0) {
-        Listed::Whole(text) => put_last(image.len(), 0, out, text),
-        Listed::Fault { text, at, answer } => put_last(at, answer.number() as usize, out, text),
+        Listed::Finished(written) => put_last(image.len(), 0, out, written),
+        Listed::Fault {
+            written,
+            at,
+            answer,
+        } => put_last(at, answer.number() as usize, out, written),
     }
 }
 

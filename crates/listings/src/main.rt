@@ -26,7 +26,11 @@ fn list(case: u64, image: &[u8], out: &mut [u8]) -> bool {
 
 // Reads one case and lists it, and says whether to go on.
 fn one(case: u64, image: &mut [u8], out: &mut [u8]) -> bool {
-    let Next::Case { image: n, out: m } = case_reader::next_case(case, image, out.len()) else {
+    let Next::Case {
+        image_len: n,
+        out_len: m,
+    } = case_reader::next_case(case, image, out.len())
+    else {
         return false;
     };
     list(case, &image[..n], &mut out[..m])

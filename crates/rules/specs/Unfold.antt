@@ -15,7 +15,7 @@ use Rattle.rules.specs.Doc.Heif.{heifLevel, isHeif}
 use Rattle.rules.specs.Doc.Answers.{handed, answerWith, answer}
 use Rattle.rules.specs.Doc.Consulted.{spanBytes, boxBytes, cutBytes, walkBytes, metaBytes, shift, consulted}
 use Rattle.rules.specs.Doc.Text.{digit, hex, decimalTo, decimal}
-use Rattle.rules.specs.Doc.Listing.{lineOf, _then_, holders, behind, behindCount, opening, met}
+use Rattle.rules.specs.Doc.Listing.{lineOf, _then_, holders, behind, behindCount, opening, listedAt}
 use Rattle.rules.specs.Doc.Listing.{rowOf, runOf, childrenOf, openBox, listRun, frontText, lineText, lastText, textOf, listing, printed}
 
 -- For proofs that compute: `unfolding document` opens every definition of document 01.
@@ -28,5 +28,5 @@ unfolding handed answerWith answer bytesAt firstFour blockAfter blockIn block nu
     entryNext entryMet entries chosenIn chosen moved movedOption planOf plan byMethod sourceOf reach inImage inIdat lies counted placed join
     positionsIn joinedIn joinedBy joinedFrom joined tested said decided boxStep levelStep boxes countedBoxes inside any only lastOf
     each openedIn opened metaTest isFine once bare walked judged after run outcome
-    digit hex decimalTo decimal lineOf _then_ holders behind behindCount opening met rowOf runOf childrenOf openBox listRun frontText lineText lastText textOf listing printed
+    digit hex decimalTo decimal lineOf _then_ holders behind behindCount opening listedAt rowOf runOf childrenOf openBox listRun frontText lineText lastText textOf listing printed
 document = tt

@@ -1,4 +1,4 @@
--- No two outcomes, place and buffer together, are the same text written: so each contract of this crate determines both.
+-- A text written at a place has one outcome, the place behind it and the buffer: so each contract of this crate determines both.
 use mathlib.Core.Path.{_≡_, sym, _∙_}
 use Prim.Native.Nat.{ℕ}
 use mathlib.Core.List.{List}

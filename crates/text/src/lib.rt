@@ -1,5 +1,5 @@
 // Text into a lent buffer. Each function writes from a position on, as much as there is room for, and answers the place behind its text, past the
-// end of a buffer that is too short. So the place behind the last text is the length of all of it.
+// end of a buffer that is too short. So of texts one behind the other, from 0 on, the last place is the length of them all.
 ghost use mathlib.Core.Path.{_≡_};
 ghost use Prim.Native.Nat.{_+_, _^_, _<_};
 ghost use mathlib.Core.List.{[], _∷_};

@@ -28,6 +28,7 @@ use Rattle.listing.proofs.opening.opening.Reads as opening-reads
 use Rattle.listing.proofs.+list_run+open_box.{statement}
 use Rattle.listing.proofs.+list_run+open_box.Tie.{close}
 
+-- A run of children may have as many bytes as the body that it fills: so that this counts as less, a box has one more than twice its bytes.
 abbrev μ-run : Measures 2 list-run-kinds.ps ℕ
 μ-run κs a = 2 * (length (a .0 .now) - a .1 .0)
 
@@ -35,11 +36,11 @@ abbrev μ-one : Measures 2 open-box-kinds.ps ℕ
 μ-one κs a = 2 * (a .1 .0 .to - a .1 .0 .from) + 1
 
 abbrev Inv-loop : run.InvT-loop
-Inv-loop s from levels out₀ text at₀ end₀ out at end =
-    (from ≤ at) × (length out ≡ length out₀) × Left (listRun levels s from) text out₀ (listRun levels s at) end out
+Inv-loop s from levels out₀ written at₀ so-far₀ out at so-far =
+    (from ≤ at) × (length out ≡ length out₀) × Left (listRun levels s from) written out₀ (listRun levels s at) so-far out
 
 abbrev μ-loop : run.MeasureT-loop
-μ-loop s from levels out₀ text at₀ end₀ out at end = length s - at
+μ-loop s from levels out₀ written at₀ so-far₀ out at so-far = length s - at
 
 -- ---- A run of boxes
 
@@ -116,8 +117,8 @@ module _ (t : ℕ) where
       let room = room-box (turn .loop .inv .2) _ _ (b .splits) (start .pre .1 .1) (c .before .before .before .put-line .ensures) in
       (omega (arith, start .pre .0, turn .loop .inv .0, b .ahead, b .order, b .inner), ((b .order, b .inner), (start .pre .1 .0, room)))
 
-  run-enum-known-text : run.Need-enum-known-text run-calls run-here list-run.Post Inv-loop μ-loop
-  run-enum-known-text c = search needs
+  run-enum-known-written : run.Need-enum-known-written run-calls run-here list-run.Post Inv-loop μ-loop
+  run-enum-known-written c = search needs
 
   run-same-length-2 : run.Need-same-length-2 run-calls run-here list-run.Post Inv-loop μ-loop
   run-same-length-2 c = search needs
@@ -129,10 +130,10 @@ module _ (t : ℕ) where
       let found = put .before .before .before in
       let turn = found .before .before .before .before .before in
       let start = turn .before .before .before in
-      went-wrong (turn .loop .inv .2) _ _ (box found .splits) (start .pre .1 .1) (put .put-line .ensures) (inner .open-box .ensures) (c .before .text .given .1)
+      went-wrong (turn .loop .inv .2) _ _ (box found .splits) (start .pre .1 .1) (put .put-line .ensures) (inner .open-box .ensures) (c .before .written .given .1)
 
-  run-enum-known-next : run.Need-enum-known-next run-calls run-here list-run.Post Inv-loop μ-loop
-  run-enum-known-next c = search needs
+  run-enum-known-after-box : run.Need-enum-known-after-box run-calls run-here list-run.Post Inv-loop μ-loop
+  run-enum-known-after-box c = search needs
 
   run-loop-less : run.Need-loop-less run-calls run-here list-run.Post Inv-loop μ-loop
   run-loop-less c =
@@ -148,7 +149,7 @@ module _ (t : ℕ) where
       let start = turn .before .before .before in
       let b = box found in
       let kept = inner .open-box .kept .1 .1 .1 .0 ∙ put .put-line .kept .1 .1 .0 ∙ turn .loop .inv .1 in
-      let left = went-on (turn .loop .inv .2) _ _ (b .splits) (start .pre .1 .1) (put .put-line .ensures) (inner .open-box .ensures) (c .before .next .given .1) in
+      let left = went-on (turn .loop .inv .2) _ _ (b .splits) (start .pre .1 .1) (put .put-line .ensures) (inner .open-box .ensures) (c .before .after-box .given .1) in
       (omega (arith, turn .loop .inv .0, b .ahead, b .order), kept, left)
 
   run-same-length-3 : run.Need-same-length-3 run-calls run-here list-run.Post Inv-loop μ-loop
@@ -245,10 +246,10 @@ pub +list-run+open-box-spec : {M : Type 1} → statement M
     (run-sub-put-line t)
     (run-put-line-requires t)
     (run-open-box-requires t)
-    (run-enum-known-text t)
+    (run-enum-known-written t)
     (run-same-length-2 t)
     (run-returns-2 t)
-    (run-enum-known-next t)
+    (run-enum-known-after-box t)
     (run-loop-less t)
     (run-loop-again t)
     (run-same-length-3 t)

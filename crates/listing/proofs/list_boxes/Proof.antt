@@ -29,18 +29,18 @@ returns c =
 list-run-requires : tie.Need-list-run-requires
 list-run-requires c κs = (omega arith, room-lines (c .before .before .before .before .args .image .now) (c .before .if1 .left))
 
-enum-known-text : tie.Need-enum-known-text
-enum-known-text c = search needs
+enum-known-written : tie.Need-enum-known-written
+enum-known-written c = search needs
 
 put-last-requires-2 : tie.Need-put-last-requires-2
 unfolding textOf
 put-last-requires-2 c κs =
     let listed = c .before .before .before .before .before .before in
-    let lines = rw (c .before .before .text .given .1) at (listed .list-run .ensures) in
+    let lines = rw (c .before .before .written .given .1) at (listed .list-run .ensures) in
     room-last (listed .before .before .before .before .before .args .image .now) (listed .before .before .if1 .left) lines
 
-enum-known-text-2 : tie.Need-enum-known-text-2
-enum-known-text-2 c = search needs
+enum-known-written-2 : tie.Need-enum-known-written-2
+enum-known-written-2 c = search needs
 
 number-requires-2 : tie.Need-number-requires-2
 number-requires-2 c κs = search needs
@@ -52,7 +52,7 @@ put-last-requires-3 : tie.Need-put-last-requires-3
 unfolding textOf
 put-last-requires-3 c κs =
     let listed = c .before .before .before .before .before .before .before in
-    let lines = rw (c .before .before .before .text2 .given .1) at (listed .list-run .ensures) in
+    let lines = rw (c .before .before .before .written2 .given .1) at (listed .list-run .ensures) in
     rw (c .before .number2 .ensures) (room-last (listed .before .before .before .before .before .args .image .now) (listed .before .before .if1 .left) lines)
 
 same-length-2 : tie.Need-same-length-2
@@ -62,7 +62,7 @@ returns-2 : tie.Need-returns-2
 unfolding textOf
 returns-2 c =
     let listed = c .before .before .before .before .before .before .before .before .before in
-    let lines = rw (c .before .before .before .before .before .text .given .1) at (listed .list-run .ensures) in
+    let lines = rw (c .before .before .before .before .before .written .given .1) at (listed .list-run .ensures) in
     whole (listed .before .before .before .before .before .args .image .now) (listed .before .before .if1 .left) lines (c .before .before .put-last2 .ensures)
 
 same-length-3 : tie.Need-same-length-3
@@ -72,7 +72,7 @@ returns-3 : tie.Need-returns-3
 unfolding textOf
 returns-3 c =
     let listed = c .before .before .before .before .before .before .before .before .before .before in
-    let lines = rw (c .before .before .before .before .before .before .text2 .given .1) at (listed .list-run .ensures) in
+    let lines = rw (c .before .before .before .before .before .before .written2 .given .1) at (listed .list-run .ensures) in
     let last = rw (c .before .before .before .before .number2 .ensures) at (c .before .before .put-last3 .ensures) in
     whole (listed .before .before .before .before .before .args .image .now) (listed .before .before .if1 .left) lines last
 
@@ -86,9 +86,9 @@ list-boxes-spec =
     same-length
     returns
     list-run-requires
-    enum-known-text
+    enum-known-written
     put-last-requires-2
-    enum-known-text-2
+    enum-known-written-2
     number-requires-2
     cast-put-last-2
     put-last-requires-3

@@ -1,5 +1,5 @@
--- The listing and extraction agree where both speak. Proved, of an image whose first `meta` extraction opens: the boxes that it walks up to and
--- with that `meta` are whole, and the listing is their lines in their order, each followed by what stands in the box, up to the first fault in
+-- The listing, before its limit of 65,536 bytes, and extraction agree where both speak. Proved, of an image whose first `meta` extraction opens:
+-- the boxes that it walks up to and with that `meta` are whole, and the listing is their lines in their order, each followed by what stands in the box, up to the first fault in
 -- one of them (`top-listed`). Where the walk over the children of `meta` ended well too, the same holds of them (`children-listed`).
 -- Not proved, since it isn't so: that the listing gets as far as extraction. It ends at the first fault, and it looks where extraction does not:
 -- into boxes that extraction skips, and behind the last box that an `iinf` counts. Without such a fault it gets there (`listed-to-children`);
@@ -33,7 +33,7 @@ use Rattle.rules.specs.Laws.BoxRow.{Row, row-whole}
 use Rattle.rules.specs.Laws.Lies.{All, children-row, top-row, opened-lies, part-size}
 use Rattle.rules.specs.Laws.Moved.{movedBox, row-moved, drop-take}
 use Rattle.rules.specs.Laws.Listing.{ending, run-done, open-more}
-use Rattle.rules.specs.Laws.ListingRow.{rows, then-finished, row-listed, rows-ending}
+use Rattle.rules.specs.Laws.ListingRow.{rowListing, then-finished, row-listed, rows-ending}
 use Rattle.rules.specs.Unfold.{document}
 use Rattle.rules.specs.Cases.{same, line as bytes}
 
@@ -41,7 +41,7 @@ use Rattle.rules.specs.Cases.{same, line as bytes}
 
 -- The listing begins with the boxes that extraction walks at the top level, up to and with `meta`. None of them is itself a fault.
 pub top-listed : (levels : ℕ) (img : List ℕ) (m : Box) → length img < 2 ^ 64 → opened img ≡ fine m
-    → listRun levels img 0 ≡ (rows (depthOver levels) (openBox levels img) (top img .list) then listRun levels img (m .body .to))
+    → listRun levels img 0 ≡ (rowListing (depthOver levels) (openBox levels img) (top img .list) then listRun levels img (m .body .to))
 top-listed levels img m h e =
     let r = row-whole topLevel img h 0 (top img .list) (m .body .to) (top-row img m e .0) (opened-lies img m e .inner) in
     row-listed levels img 0 (top img .list) (m .body .to) (r .1)
@@ -67,7 +67,7 @@ childrenIn img m = map (movedBox (m .body .from)) (children (bytesIn img (m .bod
 module _ (levels : ℕ) (img : List ℕ) (m : Box) (e : opened img ≡ fine m) (t : metaTest (bytesIn img (m .body)) ≡ fine tt)
     (c : outcome (children (bytesIn img (m .body)) .end) ≡ fine tt) where
   -- What is listed in `meta` is its children, and none of them is itself a fault. There the listing sees the image up to the end of `meta`.
-  pub children-listed : openBox (suc levels) img m ≡ rows (depthOver levels) (openBox levels (take (m .body .to) img)) (childrenIn img m)
+  pub children-listed : openBox (suc levels) img m ≡ rowListing (depthOver levels) (openBox levels (take (m .body .to) img)) (childrenIn img m)
   unfolding childrenOf
   children-listed =
       let p : Span = m .body in
@@ -88,7 +88,7 @@ module _ (levels : ℕ) (img : List ℕ) (m : Box) (e : opened img ≡ fine m) (
   -- If nothing in another box of the top level is a fault, and nothing in a child, then the listing has no fault down to and with `meta`.
   pub listed-to-children : All (λ b. (b ≡ m) ⊎ (ending (openBox (suc levels) img b) ≡ finished)) (top img .list)
       → All (λ b. ending (openBox levels (take (m .body .to) img) b) ≡ finished) (childrenIn img m)
-      → ending (rows (depthOver (suc levels)) (openBox (suc levels) img) (top img .list)) ≡ finished
+      → ending (rowListing (depthOver (suc levels)) (openBox (suc levels) img) (top img .list)) ≡ finished
   listed-to-children a b = rows-ending (depthOver (suc levels)) (openBox (suc levels) img) go (top img .list) a
     where
       go : (x : Box) → (x ≡ m) ⊎ (ending (openBox (suc levels) img x) ≡ finished) → ending (openBox (suc levels) img x) ≡ finished
@@ -97,7 +97,7 @@ module _ (levels : ℕ) (img : List ℕ) (m : Box) (e : opened img ≡ fine m) (
 
 -- ---- Where they differ
 
--- Both premises have to be asked. Here an empty `iinf` stands beside `meta`: extraction skips it, and the listing opens it.
+-- Both premises of `listed-to-children` are needed. Here an empty `iinf` stands beside `meta`: extraction skips it, and the listing opens it.
 unfoldable pub beside : List ℕ
 beside = bytes 20 0x00000014_66747970_6d696631_00000000_6d696631 ++ bytes 8 0x00000008_69696e66 ++ bytes 12 0x0000000c_6d657461_00000000
 
@@ -115,7 +115,7 @@ pub both-walked : Walked beside (boxOf 28 meta 36 40) × Walked nested (boxOf 20
 unfolding document beside nested bytes
 both-walked = ((refl, refl, refl, refl), (refl, refl, refl, refl))
 
--- The listing of the one doesn't get to `meta`.
+-- The listing of `beside` doesn't get to `meta`.
 pub beside-listed : T (same (listing beside)
     (ascii "depth=0 at=0 type=66747970 header=8 body=12" ++ newline
     ++ ascii "depth=0 at=20 type=69696e66 header=8 body=0" ++ newline
@@ -123,7 +123,7 @@ pub beside-listed : T (same (listing beside)
 unfolding document same beside bytes
 beside-listed = tt
 
--- That of the other ends in its child.
+-- That of `nested` ends in its child.
 pub nested-listed : T (same (listing nested)
     (ascii "depth=0 at=0 type=66747970 header=8 body=12" ++ newline
     ++ ascii "depth=0 at=20 type=6d657461 header=8 body=12" ++ newline

@@ -68,17 +68,18 @@ opening s b =
 -- ---- A run of boxes, and one box
 
 -- A box's line is printed once its header and body fit, even if it then can't be opened. It comes before the lines of its children, and these
--- before the next box's.
-unfoldable pub met : ℕ → ℕ → Outcome Box → (Box → Listing) → (ℕ → Listing) → Listing
-met depth at (refused n) inner next = fault at n
-met depth at (fine b) inner next = line (lineOf depth b) (inner b then next (b .body .to))
+-- before the next box's. `inner` has what stands in a box, `next` what is listed from a position on.
+unfoldable pub listedAt : ℕ → ℕ → Outcome Box → (Box → Listing) → (ℕ → Listing) → Listing
+listedAt depth at (refused n) inner next = fault at n
+listedAt depth at (fine b) inner next = line (lineOf depth b) (inner b then next (b .body .to))
 
 -- at most n boxes from a position on, each with what `inner` has of its children. All levels follow the rules inside a box.
 unfoldable pub rowOf : ℕ → (Box → Listing) → List ℕ → ℕ → ℕ → Listing
 rowOf depth inner s zero at = finished
-rowOf depth inner s (suc n) at = if leb (length s) at then finished else met depth at (childAt s at) inner (rowOf depth inner s n)
+rowOf depth inner s (suc n) at = if leb (length s) at then finished else listedAt depth at (childAt s at) inner (rowOf depth inner s n)
 
--- the boxes from a position to the end of the bytes; there are no more of them than bytes
+-- the boxes from a position to the end of the bytes; there are no more of them than bytes. `openBox` and `listRun` need each other, and a
+-- definition can use only what stands above it: so both go through this one.
 unfoldable pub runOf : ℕ → (List ℕ → Box → Listing) → List ℕ → ℕ → Listing
 runOf depth inner s at = rowOf depth (inner s) s (length s) at
 
@@ -92,7 +93,7 @@ childrenOf at (fine (some from)) children = children from
 abbrev pub deepest : ℕ
 deepest = 8
 
--- the depth of boxes that have so many levels under them that may be opened
+-- Boxes with so many levels under them that may be opened stand at this depth: with 8 levels at depth 0, with none at depth 8.
 abbrev pub depthOver : ℕ → ℕ
 depthOver levels = deepest - levels
 

@@ -14,7 +14,7 @@ use Rattle.rules.specs.Doc.Bytes.{sizeOf, bytesIn, version}
 use Rattle.rules.specs.Doc.Headers.{meta, iinf, Box, is, childAt}
 use Rattle.rules.specs.Doc.Iinf.{countSize}
 use Rattle.rules.specs.Doc.Listing.{Listing, finished, fault, line, _then_, holders, behind, behindCount, opening}
-use Rattle.rules.specs.Doc.Listing.{met, rowOf, runOf, childrenOf, depthOver, openBox, listRun, lineText, textOf}
+use Rattle.rules.specs.Doc.Listing.{listedAt, rowOf, runOf, childrenOf, depthOver, openBox, listRun, lineText, textOf}
 use Rattle.rules.specs.Laws.Rows.{by-test}
 use Rattle.rules.specs.Laws.Headers.{child-inside}
 
@@ -69,11 +69,11 @@ then-longer (line x a) b = simp length-append (omega (arith, then-longer a b))
 -- ---- A run of boxes
 
 module _ (depth : ℕ) (inner : Box → Listing) (s : List ℕ) where
-  met-cong : (at : ℕ) (o : Outcome Box) → o ≡ childAt s at → (f g : ℕ → Listing) → ((q : ℕ) → at < q → f q ≡ g q)
-      → met depth at o inner f ≡ met depth at o inner g
-  unfolding met
-  met-cong at (refused k) c f g e = refl
-  met-cong at (fine b) c f g e =
+  at-cong : (at : ℕ) (o : Outcome Box) → o ≡ childAt s at → (f g : ℕ → Listing) → ((q : ℕ) → at < q → f q ≡ g q)
+      → listedAt depth at o inner f ≡ listedAt depth at o inner g
+  unfolding listedAt
+  at-cong at (refused k) c f g e = refl
+  at-cong at (fine b) c f g e =
       let i = child-inside s at c in
       rw (e (b .body .to) (omega arith))
 
@@ -85,18 +85,18 @@ module _ (depth : ℕ) (inner : Box → Listing) (s : List ℕ) where
   enough (suc n) zero at h k = rw (le-leb (length s) at (omega arith))
   enough (suc n) (suc m) at h k =
       ap (λ (l : Listing). if leb (length s) at then finished else l)
-      (met-cong at (childAt s at) refl (rowOf depth inner s n) (rowOf depth inner s m) (λ q j. enough n m q (omega arith) (omega arith)))
+      (at-cong at (childAt s at) refl (rowOf depth inner s n) (rowOf depth inner s m) (λ q j. enough n m q (omega arith) (omega arith)))
 
 module _ (levels : ℕ) (s : List ℕ) (at : ℕ) where
   unroll : listRun levels s at
-      ≡ (if leb (length s) at then finished else met (depthOver levels) at (childAt s at) (openBox levels s) (listRun levels s))
+      ≡ (if leb (length s) at then finished else listedAt (depthOver levels) at (childAt s at) (openBox levels s) (listRun levels s))
   unfolding listRun runOf rowOf
   unroll = enough (depthOver levels) (openBox levels s) s (length s) (suc (length s)) at (omega arith) (omega arith)
 
   pub run-done : length s ≤ at → listRun levels s at ≡ finished
   run-done h = unroll ∙ rw (le-leb (length s) at h)
 
-  pub run-next : at < length s → listRun levels s at ≡ met (depthOver levels) at (childAt s at) (openBox levels s) (listRun levels s)
+  pub run-next : at < length s → listRun levels s at ≡ listedAt (depthOver levels) at (childAt s at) (openBox levels s) (listRun levels s)
   run-next h = unroll ∙ rw (lt-leb (length s) at h)
 
 -- ---- One box

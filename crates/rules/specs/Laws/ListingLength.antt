@@ -13,7 +13,7 @@ use Rattle.rules.specs.Doc.Lists.{any}
 use Rattle.rules.specs.Doc.Bytes.{sizeOf, bytesIn, version}
 use Rattle.rules.specs.Doc.Headers.{meta, iinf, Box, is, childAt}
 use Rattle.rules.specs.Doc.Iinf.{countSize}
-use Rattle.rules.specs.Doc.Listing.{lineOf, Listing, finished, fault, line, _then_, holders, behind, behindCount, opening, met, rowOf, runOf, childrenOf, deepest}
+use Rattle.rules.specs.Doc.Listing.{lineOf, Listing, finished, fault, line, _then_, holders, behind, behindCount, opening, listedAt, rowOf, runOf, childrenOf, deepest}
 use Rattle.rules.specs.Doc.Listing.{depthOver, openBox, listRun, frontText, lineText, lastText, textOf, longest, listing, printed}
 use Rattle.rules.specs.Laws.Rows.{by-test}
 use Rattle.rules.specs.Laws.Headers.{Inside, child-inside}
@@ -84,11 +84,11 @@ module _ (b : Box) (h : b .start ≤ longest) (children : ℕ → Listing) (on :
 
 module _ (levels : ℕ) (s : List ℕ) (h : length s ≤ longest)
     (each : (at : ℕ) (b : Box) → Inside (length s) at b → Short (sizeOf (b .body)) (openBox levels s b)) where
-  met-short : (at size : ℕ) → at < length s → length s ≤ at + size → (o : Outcome Box) → o ≡ childAt s at
-      → (next : ℕ → Listing) → Runs (length s) next → Short size (met (depthOver levels) at o (openBox levels s) next)
-  unfolding met
-  met-short at size k g (refused j) e next on = last-length at j (omega arith) (omega (arith, refusal-below j (rw (← e) at (child-numbered s at))))
-  met-short at size k g (fine b) e next on =
+  at-short : (at size : ℕ) → at < length s → length s ≤ at + size → (o : Outcome Box) → o ≡ childAt s at
+      → (next : ℕ → Listing) → Runs (length s) next → Short size (listedAt (depthOver levels) at o (openBox levels s) next)
+  unfolding listedAt
+  at-short at size k g (refused j) e next on = last-length at j (omega arith) (omega (arith, refusal-below j (rw (← e) at (child-numbered s at))))
+  at-short at size k g (fine b) e next on =
       let i = child-inside s at e in
       let q = b .body .to in
       let later = then-short (sizeOf (b .body)) (length s - q) (size - 8) (openBox levels s b) (next q) (omega arith) (each at b i) in
@@ -98,7 +98,7 @@ module _ (levels : ℕ) (s : List ℕ) (h : length s ≤ longest)
   unfolding rowOf
   row-short zero at size g = tt
   row-short (suc n) at size g =
-      by-test (Short size) (leb (length s) at) (λ e. tt) (λ e. met-short at size (leb-false (length s) at e) g (childAt s at) refl _ (row-short n))
+      by-test (Short size) (leb (length s) at) (λ e. tt) (λ e. at-short at size (leb-false (length s) at e) g (childAt s at) refl _ (row-short n))
 
 run-short : (levels : ℕ) (s : List ℕ) → length s ≤ longest → Runs (length s) (listRun levels s)
 unfolding listRun runOf openBox
