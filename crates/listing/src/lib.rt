@@ -41,7 +41,7 @@ pub(crate) enum Listed {
     Fault {
         written: usize,
         at: usize,
-        answer: Refusal,
+        why: Refusal,
     },
 }
 
@@ -59,7 +59,7 @@ fn list_run(s: &[u8], from: usize, levels: usize, out: &mut [u8], written: usize
                 return Listed::Fault {
                     written: so_far,
                     at: at,
-                    answer: e,
+                    why: e,
                 };
             }
             Child::Whole { kind, from, to } => {
@@ -71,15 +71,11 @@ fn list_run(s: &[u8], from: usize, levels: usize, out: &mut [u8], written: usize
                 };
                 let after_line = put_line(DEEPEST - levels, found, out, so_far);
                 match open_box(s, found, levels, out, after_line) {
-                    Listed::Fault {
-                        written,
-                        at,
-                        answer,
-                    } => {
+                    Listed::Fault { written, at, why } => {
                         return Listed::Fault {
                             written: written,
                             at: at,
-                            answer: answer,
+                            why: why,
                         };
                     }
                     Listed::Finished(after_box) => {
@@ -108,7 +104,7 @@ fn open_box(s: &[u8], found: Found, levels: usize, out: &mut [u8], written: usiz
         Inner::Refused(e) => Listed::Fault {
             written: written,
             at: found.start,
-            answer: e,
+            why: e,
         },
         Inner::Children(from) => {
             let to = found.to;
@@ -127,11 +123,7 @@ pub fn list_boxes(image: &[u8], out: &mut [u8]) -> usize
     }
     match list_run(image, 0, DEEPEST, out, 0) {
         Listed::Finished(written) => put_last(image.len(), 0, out, written),
-        Listed::Fault {
-            written,
-            at,
-            answer,
-        } => put_last(at, answer.number() as usize, out, written),
+        Listed::Fault { written, at, why } => put_last(at, why.number() as usize, out, written),
     }
 }
 
