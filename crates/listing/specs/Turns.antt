@@ -15,7 +15,7 @@ use Rattle.listing.specs.declared.opening.Inner.{Inner}
 use Rattle.listing.specs.declared.opening.Inner.the-variants.{Leaf, Children, Refused}
 use Rattle.listing.specs.Told.{starts}
 
--- A turn that listedAt a whole box: where the box lies, and that what is listed is its line, what stands in it, and the rest of the run.
+-- A turn that met a whole box: where the box lies, and that what is listed is its line, what stands in it, and the rest of the run.
 pub record Turn (levels : ℕ) (s : List ℕ) (at kind from to : ℕ) : Type 0 where
   pub ahead : at + 8 ≤ from
   pub order : from ≤ to
@@ -40,8 +40,7 @@ module _ (levels : ℕ) (s : List ℕ) (b : Box) where
 
   module _ (not-deepest : levels ≡ 0 → ⊥) {x : Inner} (told : starts x ≡ opening s b) where
     box-opened : (x′ : Inner) → x ≡ x′ → openBox levels s b ≡ childrenOf (b .start) (starts x′) (listRun (levels - 1) (take (b .body .to) s))
-    box-opened x′ e =
-        rw (← e, told) (open-fewer s b levels not-deepest)
+    box-opened x′ e = rw (← e, told) (open-fewer s b levels not-deepest)
 
     pub box-leaf : x ≡ Leaf → openBox levels s b ≡ finished
     unfolding childrenOf

@@ -1,6 +1,7 @@
 -- The listing, before its limit of 65,536 bytes, and extraction agree where both speak. Proved, of an image whose first `meta` extraction opens:
--- the boxes that it walks up to and with that `meta` are whole, and the listing is their lines in their order, each followed by what stands in the box, up to the first fault in
--- one of them (`top-listed`). Where the walk over the children of `meta` ended well too, the same holds of them (`children-listed`).
+-- the boxes that it walks up to and with that `meta` are whole, and the listing is their lines in their order, each followed by what stands in
+-- the box, up to the first fault in one of them (`top-listed`). Where the walk over the children of `meta` ended well too, the same holds of
+-- them (`children-listed`).
 -- Not proved, since it isn't so: that the listing gets as far as extraction. It ends at the first fault, and it looks where extraction does not:
 -- into boxes that extraction skips, and behind the last box that an `iinf` counts. Without such a fault it gets there (`listed-to-children`);
 -- `beside` and `nested` are files of 40 bytes that have one. Nothing is said of an image that extraction refuses on the way.
