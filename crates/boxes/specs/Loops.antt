@@ -24,7 +24,7 @@ pub record WholeBox (s : List ℕ) (at kind from to : ℕ) : Type 0 where
   pub bytes : bytesIn s (record { from = from; to = to }) ≡ part s from (to - from)
 
 -- the two calls together: the box that is announced, if it stands the test; a header that is cut inside a box is 3
-together : (s : List ℕ) (at : ℕ) {a o : Outcome Box} → a ≡ announced 3 s at → o ≡ standing (whole 3 (length s)) a → o ≡ childAt s at
+pub together : (s : List ℕ) (at : ℕ) {a o : Outcome Box} → a ≡ announced 3 s at → o ≡ standing (whole 3 (length s)) a → o ≡ childAt s at
 unfolding childAt boxAt
 together s at read tried = tried ∙ ap (standing (whole 3 (length s))) read
 

@@ -25,7 +25,7 @@ ghost use Prim.Native.Nat.{_-_};
 ghost use lib.ListN.{length};
 
 // How many bytes of `s` are left at a position: none past its end.
-fn left(s: &[u8], at: usize) -> usize
+pub fn left(s: &[u8], at: usize) -> usize
     ensures { λ r. ⌜ r ≡ length (now (s .entry)) - at ⌝ }
 {
     if at <= s.len() { s.len() - at } else { 0 }

@@ -1,0 +1,7 @@
+pub mod Rows
+pub mod Tied
+pub mod Calls
+pub mod Moving
+pub mod Methods
+pub mod Made
+pub mod Peeking

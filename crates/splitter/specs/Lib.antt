@@ -1,0 +1,4 @@
+pub mod Front
+pub mod Behind
+pub mod Laws
+pub mod Told
