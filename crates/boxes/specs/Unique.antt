@@ -109,6 +109,10 @@ refusal-one {x} {y} e = one number asRefusal refusal-back e refl
 pub refusal-number-one : (e : Refusal) {x y : ℕ} → x ≡ number e → y ≡ number e → x ≡ y
 refusal-number-one e p q = p ∙ sym q
 
+-- of `left`
+pub left-one : (s : List ℕ) (at : ℕ) {x y : ℕ} → x ≡ length s - at → y ≡ length s - at → x ≡ y
+left-one s at p q = p ∙ sym q
+
 -- ---- Headers
 
 -- from what is told with 0 and with 1 for a cut header: only of a cut one do they differ

@@ -38,6 +38,8 @@ impl<'a> BoxSplitter<'a> {
 
     pub const UINT64: usize = 8;
 
+    pub const ARRAY4: usize = 4;
+
     pub fn new(slice: &'a [u8]) -> BoxSplitter<'a>
         ensures { λ r. ⌜ r .inner ≡ slice .entry ⌝ }
     {
@@ -115,7 +117,7 @@ impl<'a> BoxSplitter<'a> {
     pub fn array4(&mut self) -> Array4
         ensures { λ r. ⌜ (array4Of r ≡ array4At (held (self .entry)) 0) × (held (self .exit) ≡ behind (held (self .entry)) 4) ⌝ }
     {
-        let n = BoxSplitter::UINT32;
+        let n = BoxSplitter::ARRAY4;
         let r = array4_at(self.inner, BoxSplitter::FRONT);
         self.inner = behind(self.inner, n);
         r
