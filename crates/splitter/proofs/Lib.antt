@@ -5,3 +5,4 @@ pub mod Moving
 pub mod Methods
 pub mod Made
 pub mod Peeking
+pub mod Lending
