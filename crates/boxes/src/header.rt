@@ -1,3 +1,4 @@
+// A header, and the one decision over its size.
 ghost use mathlib.Core.Path.{_≡_};
 ghost use Prim.Native.Nat.{ℕ, _+_, _-_, _^_, _≤_, _<_};
 ghost use Rattle.rules.specs.Doc.Headers.{announced};

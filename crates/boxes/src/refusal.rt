@@ -1,3 +1,4 @@
+// The refusals of every layer, and their numbers.
 ghost use mathlib.Core.Path.{_≡_};
 ghost use Rattle.boxes.specs.Told.{number};
 

@@ -8,35 +8,37 @@ use boxes::FTYP;
 use boxes::Header;
 use boxes::Refusal;
 
-const MIF1: u32 = 0x6d696631;
-
-const MSF1: u32 = 0x6d736631;
-
-// Where the compatible brands begin: after the major brand and the minor version.
-const COMPATIBLE: usize = 8;
-
-fn is_known(brand: u32) -> bool
-    ensures { λ r. ⌜ r ≡ known brand ⌝ }
-{
-    match brand {
-        MIF1 | MSF1 => true,
-        _ => false,
-    }
-}
-
 // What the test of an `ftyp` says.
 pub enum Ftyp {
     Known,
     Refused(Refusal),
 }
 
+impl Ftyp {
+    const MIF1: u32 = 0x6d696631;
+
+    const MSF1: u32 = 0x6d736631;
+
+    // Where the compatible brands begin: after the major brand and the minor version.
+    const COMPATIBLE: usize = 8;
+}
+
+fn is_known(brand: u32) -> bool
+    ensures { λ r. ⌜ r ≡ known brand ⌝ }
+{
+    match brand {
+        Ftyp::MIF1 | Ftyp::MSF1 => true,
+        _ => false,
+    }
+}
+
 pub fn parse_ftyp(body: &[u8]) -> Ftyp
     ensures { λ r. ⌜ ftypOf r ≡ brandTest (now (body .entry)) ⌝ }
 {
-    if body.len() < COMPATIBLE {
+    if body.len() < Ftyp::COMPATIBLE {
         return Ftyp::Refused(Refusal::BoxTooSmall);
     }
-    let mut at = COMPATIBLE;
+    let mut at = Ftyp::COMPATIBLE;
     while 4 <= body.len() - at {
         if is_known(endian::loadu32(body, at)) {
             return Ftyp::Known;
@@ -60,10 +62,10 @@ pub fn is_heif(buf: &[u8]) -> bool
             Child::Whole { kind, from, to } => {
                 if kind == FTYP {
                     let body = &buf[from..to];
-                    if body.len() < COMPATIBLE {
+                    if body.len() < Ftyp::COMPATIBLE {
                         break 'boxes false;
                     }
-                    let mut i = COMPATIBLE;
+                    let mut i = Ftyp::COMPATIBLE;
                     while 4 <= body.len() - i {
                         if is_known(endian::loadu32(body, i)) {
                             break 'boxes true;

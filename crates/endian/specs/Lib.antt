@@ -1,1 +1,2 @@
+-- That the contract of a load determines the number.
 pub mod Unique

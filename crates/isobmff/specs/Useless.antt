@@ -1,5 +1,5 @@
--- Document 01's useless versions, and the slips that trainees make, are shut out: what a call that meets the contract of `get_exif_attr` gives for
--- the images that show them.
+-- Document 01's useless versions, the four slips that it names, and two more faults are shut out: what a call that meets the contract of
+-- `get_exif_attr` gives for the images that show them.
 use mathlib.Core.Path.{_≡_, refl, sym, ap, _∙_}
 use Prim.Native.Nat.{ℕ, _+_}
 use native.Mathlib.Omega.{arith}
@@ -28,7 +28,8 @@ written = line 5 0x4d4d002a_09
 
 -- ---- Useless versions
 
--- Refusing always, and a block that is made up. H's extent has length 0, so this shuts out a trainee's slip too: length zero taken for no bytes.
+-- Refusing always, and a block that is made up. H's extent has length 0, so this shuts out a fault too that document 01 doesn't name: length zero
+-- taken for no bytes.
 pub h-is-done : Gives H fresh (Done 4) written
 unfolding document H line fresh written
 h-is-done = gives H fresh (Done 4) written refl
@@ -56,35 +57,33 @@ not-writing-nothing r e =
     let z : _≡_ {A = ℕ} 9 0x4d = ap (λ (s : List ℕ). byteAt s 0) (h-is-done r fresh e .1) in
     omega arith
 
+-- H with other children of `meta`; and its own `iinf` and `idat`
+unfoldable pub withChildren : List ℕ → List ℕ
+withChildren children = line 20 0x00000014_66747970_6d696631_00000000_6d696631
+    ++ line 4 (12 + length children)
+    ++ line 8 0x6d657461_00000000
+    ++ children
+
+abbrev pub infos : List ℕ
+infos = line 14 0x00000023_69696e66_00000000_0001 ++ line 21 0x00000015_696e6665_02000000_0001_0000_45786966_00
+
+abbrev pub store : List ℕ
+store = line 17 0x00000011_69646174_00000001_aa_4d4d002a
+
 -- H with another `iloc`
 unfoldable pub withTable : List ℕ → List ℕ
-withTable table = line 20 0x00000014_66747970_6d696631_00000000_6d696631
-    ++ line 4 (64 + length table)
-    ++ line 8 0x6d657461_00000000
-    ++ line 14 0x00000023_69696e66_00000000_0001
-    ++ line 21 0x00000015_696e6665_02000000_0001_0000_45786966_00
-    ++ table
-    ++ line 17 0x00000011_69646174_00000001_aa_4d4d002a
+withTable table = withChildren (infos ++ table ++ store)
 
 -- two extents, of two bytes and of seven
 unfoldable pub twoExtents : List ℕ
 twoExtents = withTable (line 40 0x00000028_696c6f63_01000000_4400_0001_0001_0001_0000_0002_00000000_00000002_00000002_00000007)
 
--- Copying the first extent and only pretending for later ones; and the slip of reading the four bytes from the first extent when it has two.
+-- Copying the first extent and only pretending for later ones; and one of the slips, reading the four bytes from the first extent when it has two.
 pub both-extents-count : Gives twoExtents fresh (Done 4) written
-unfolding document twoExtents withTable line fresh written
+unfolding document twoExtents withTable withChildren line fresh written
 both-extents-count = gives twoExtents fresh (Done 4) written refl
 
--- ---- Slips
-
--- two entries of the wanted id, the first with an extent of one byte
-unfoldable pub twoEntries : List ℕ
-twoEntries = withTable (line 48 0x00000030_696c6f63_01000000_4400_0002_0001_0001_0000_0001_00000000_00000001_0001_0001_0000_0001_00000000_00000000)
-
--- Stopping at the first entry of the wanted id.
-pub last-entry-wins : Gives twoEntries fresh (Done 4) written
-unfolding document twoEntries withTable line fresh written
-last-entry-wins = gives twoEntries fresh (Done 4) written refl
+-- ---- The other three slips
 
 -- an offset size of 3, and one entry, of another item
 unfoldable pub otherSizes : List ℕ
@@ -92,7 +91,7 @@ otherSizes = withTable (line 31 0x0000001f_696c6f63_01000000_3400_0001_0002_0001
 
 -- Judging sizes of other items.
 pub other-sizes-unjudged : Gives otherSizes fresh (Refused NoMatchingEntry) fresh
-unfolding document otherSizes withTable line fresh
+unfolding document otherSizes withTable withChildren line fresh
 other-sizes-unjudged = gives otherSizes fresh (Refused NoMatchingEntry) fresh refl
 
 -- an `mdat` of 20 bytes of which 10 are there
@@ -106,14 +105,20 @@ cut-mdat-skipped = gives cutMdat fresh (Refused NotFound) fresh refl
 
 -- H with `iloc` before `iinf`
 unfoldable pub ilocFirst : List ℕ
-ilocFirst = line 20 0x00000014_66747970_6d696631_00000000_6d696631
-    ++ line 12 0x00000060_6d657461_00000000
-    ++ line 32 0x00000020_696c6f63_01000000_4400_0001_0001_0001_0000_0001_00000000_00000000
-    ++ line 14 0x00000023_69696e66_00000000_0001
-    ++ line 21 0x00000015_696e6665_02000000_0001_0000_45786966_00
-    ++ line 17 0x00000011_69646174_00000001_aa_4d4d002a
+ilocFirst = withChildren (line 32 0x00000020_696c6f63_01000000_4400_0001_0001_0001_0000_0001_00000000_00000000 ++ infos ++ store)
 
 -- `iloc` read when met, before the wanted id is known.
 pub iloc-read-later : Gives ilocFirst fresh (Done 4) written
-unfolding document ilocFirst line fresh written
+unfolding document ilocFirst withChildren line fresh written
 iloc-read-later = gives ilocFirst fresh (Done 4) written refl
+
+-- ---- A fault that document 01 doesn't name
+
+-- two entries of the wanted id, the first with an extent of one byte
+unfoldable pub twoEntries : List ℕ
+twoEntries = withTable (line 48 0x00000030_696c6f63_01000000_4400_0002_0001_0001_0000_0001_00000000_00000001_0001_0001_0000_0001_00000000_00000000)
+
+-- Stopping at the first entry of the wanted id.
+pub last-entry-wins : Gives twoEntries fresh (Done 4) written
+unfolding document twoEntries withTable withChildren line fresh written
+last-entry-wins = gives twoEntries fresh (Done 4) written refl

@@ -11,12 +11,14 @@ use crate::place::extent_place;
 use boxes::Refusal;
 use locations::Location;
 
-const MAX_EXIF_SIZE: usize = 65535;
-
 // The total of the extents so far, or what is refused first.
 pub(crate) enum Total {
     Sum(usize),
     Refused(Refusal),
+}
+
+impl Total {
+    const MAX_EXIF_SIZE: usize = 65535;
 }
 
 // The total with one more part.
@@ -28,7 +30,7 @@ fn with_part(total: usize, place: Place) -> Total
         Place::Refused(e) => Total::Refused(e),
         Place::Part { from, to } => {
             let size = minus(to, from);
-            if MAX_EXIF_SIZE - total < size {
+            if Total::MAX_EXIF_SIZE - total < size {
                 return Total::Refused(Refusal::TooLarge);
             }
             Total::Sum(total + size)

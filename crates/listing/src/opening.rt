@@ -65,12 +65,10 @@ fn behind_count(s: &[u8], found: Found) -> Inner
     let to = found.to;
     match boxes::fullbox_header(&s[from..to], 0) {
         Number::Refused(e) => Inner::Refused(e),
-        Number::Got(version) => {
-            if version == 0 {
-                return behind(6, found);
-            }
-            behind(8, found)
-        }
+        Number::Got(version) => match version {
+            0 => behind(6, found),
+            _ => behind(8, found),
+        },
     }
 }
 

@@ -26,14 +26,10 @@ fn list(case: u64, image: &[u8], out: &mut [u8]) -> bool {
 
 // Reads one case and lists it, and says whether to go on.
 fn one(case: u64, image: &mut [u8], out: &mut [u8]) -> bool {
-    let Next::Case {
-        image_len: n,
-        out_len: m,
-    } = case_reader::next_case(case, image, out.len())
-    else {
+    let Next::Case { image_len, out_len } = case_reader::next_case(case, image, out.len()) else {
         return false;
     };
-    list(case, &image[..n], &mut out[..m])
+    list(case, &image[..image_len], &mut out[..out_len])
 }
 
 // A proved loop has to end, and nothing says that standard input does. So the loop counts the cases, up to a number that no run reaches.

@@ -12,7 +12,7 @@ use Rattle.rules.specs.Doc.Bytes.{numberAt, part, Span, sizeOf, bytesIn}
 use Rattle.rules.specs.Doc.Meta.{opened}
 use Rattle.rules.specs.Doc.Children.{Kept, kept}
 use Rattle.rules.specs.Doc.Iloc.{Extent, extents, Chosen, chosen}
-use Rattle.rules.specs.Doc.Join.{plan, byMethod, sourceOf, lies}
+use Rattle.rules.specs.Doc.Join.{Plan, plan, byMethod, sourceOf, lies}
 use Rattle.rules.specs.Doc.Block.{blockAfter}
 use Rattle.rules.specs.Doc.Answers.{Answer, handed, answerWith}
 
@@ -63,14 +63,19 @@ itemBlock img store table wanted = chosen table wanted >>= chosenBlock img store
 
 -- ---- The image
 
+-- steps 9 and 10 for a plan
+abbrev pub planBlock : List ℕ → Plan → Outcome (List ℕ)
+planBlock img p = do
+  source ← sourceOf (length img) (p .idat) (p .entry .method)
+  let s = bytesIn img source
+  blockFrom (lies (p .entry .method) (length s) (p .entry .base)) s (p .parts)
+
 -- the block of an image, step by step
 unfoldable pub blockBytes : List ℕ → Outcome (List ℕ)
 blockBytes img = do
   m ← opened img
   p ← plan (m .body .from) (bytesIn img (m .body))
-  source ← sourceOf (length img) (p .idat) (p .entry .method)
-  let s = bytesIn img source
-  blockFrom (lies (p .entry .method) (length s) (p .entry .base)) s (p .parts)
+  planBlock img p
 
 -- the bytes of the last `idat`, if there is one
 unfoldable pub storeIn : List ℕ → Option Span → Option (List ℕ)

@@ -1,3 +1,4 @@
+-- For proofs that compute: `unfolding document` opens every definition of document 01.
 use Rattle.rules.specs.Doc.Outcomes.{isFine, once}
 use Rattle.rules.specs.Doc.Lists.{any, only, lastOf, each}
 use Rattle.rules.specs.Doc.Bytes.{numberAt, positions, bytesIn, field, sized, version}
@@ -18,7 +19,6 @@ use Rattle.rules.specs.Doc.Text.{digit, hex, decimalTo, decimal}
 use Rattle.rules.specs.Doc.Listing.{lineOf, _then_, holders, behind, behindCount, opening, listedAt}
 use Rattle.rules.specs.Doc.Listing.{rowOf, runOf, childrenOf, openBox, listRun, frontText, lineText, lastText, textOf, listing, printed}
 
--- For proofs that compute: `unfolding document` opens every definition of document 01.
 unfoldable pub document : Unit {0}
 unfolding handed answerWith answer bytesAt firstFour blockAfter blockIn block numberAt positions bytesIn field sized version metaLevel
     children bodyIn lastBody allItems wantedItem keptIn kept spanBytes boxBytes cutBytes walkBytes metaBytes shift consulted

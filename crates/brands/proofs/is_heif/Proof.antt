@@ -1,4 +1,4 @@
--- The outer loop: the boxes from `at` on decide the answer. The inner loop: the brands from `i` on do.
+-- What was passed has no say any more: in the outer loop the boxes from `at` on decide the answer, in the inner one the brands from `i` on.
 use mathlib.Core.Path.{_≡_}
 use Prim.Native.Nat.{_≤_, _-_}
 use native.Mathlib.Omega.{arith}

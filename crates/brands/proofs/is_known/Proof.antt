@@ -1,4 +1,4 @@
--- By the arms of the `match`: one of the two numbers, or neither.
+-- The definition compares with the same two numbers that the arms name.
 use mathlib.Core.Logic.{⊎-elim, inl, inr}
 use borrow.Author.Tests.{ne-eqb}
 use Rattle.brands.proofs.is_known.Statement.{statement}

@@ -1,4 +1,4 @@
--- The loop: the brands from `at` on decide the test, as all of them do.
+-- A brand that was passed is not known: so the brands from `at` on decide the test as all of them do.
 use mathlib.Core.Bool.{true, false}
 use mathlib.Core.Path.{_≡_, refl}
 use Prim.Native.Nat.{_≤_, _-_}

@@ -1,4 +1,4 @@
--- The loop: the bytes up to `i` are filled.
+-- The bytes up to `i` are filled, each turn fills one more, and at the end `i` is the length.
 use mathlib.Core.Path.{_≡_, refl, sym, _∙_}
 use Prim.Native.Nat.{_-_, _≤_, _<_}
 use native.Mathlib.Numerals.{add-one}

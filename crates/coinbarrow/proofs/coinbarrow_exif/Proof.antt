@@ -1,4 +1,5 @@
--- Each case of the answer is packed by its law in specs/Packed.
+-- No length that the contract of `get_exif_attr` allows takes more than 32 bits: so it fits the lower half, and the two halves say what the answer
+-- said (specs/Packed).
 use borrow.Author.Needs.{needs}
 use Rattle.coinbarrow.specs.Packed.{done-fits, room-fits, packed-answer}
 use Rattle.coinbarrow.proofs.coinbarrow_exif.Statement.{statement}

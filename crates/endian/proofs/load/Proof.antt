@@ -1,4 +1,5 @@
--- The invariant: `num` is the number that the first `i` bytes make. The measure is the bytes that are still to come.
+-- `num` is the number that the first `i` bytes make. It is below 256^i, so up to eight bytes never overflow. The measure is the bytes that are still
+-- to come.
 use borrow.Author.Needs.{needs}
 use mathlib.Core.Path.{_≡_, refl}
 use Prim.Native.Nat.{_≤_, _-_}

@@ -1,5 +1,7 @@
 -- What is lent to `extract_item` are parts that lie inside, by what `parse_meta` found; each answer by its law in Whole.
 use native.Mathlib.Omega.{arith}
+use lib.ListN.{length}
+use Rattle.rules.specs.Laws.Lies.{Lies}
 use Rattle.isobmff.specs.Whole.{meta-refused, iloc-inside, idat-inside, without-idat, with-idat}
 use borrow.Author.Needs.{needs}
 use Rattle.isobmff.proofs.from_meta.Statement.{statement}
@@ -14,14 +16,20 @@ enum-known-e c = search needs
 enum-known-item-id : tie.Need-enum-known-item-id
 enum-known-item-id c = search needs
 
+-- the last `iloc` lies in the body of `meta`
+iloc : (c : tie.After-item-id)
+    → let p = c .item-id .given .0 .1 in
+    Lies (length (c .before .before .before .before .before .before .args .body .now)) (record { from = p .0; to = p .1 .0 })
+iloc c = iloc-inside _ (c .before .before .parse-meta .ensures) (c .item-id .given .1)
+
 sub-iloc : tie.Need-sub-iloc
-sub-iloc c = iloc-inside _ (c .before .before .before .parse-meta .ensures) (c .before .item-id .given .1) .order
+sub-iloc c = iloc (c .before) .order
 
 part-iloc-start : tie.Need-part-iloc-start
-part-iloc-start c = omega (arith, iloc-inside _ (c .before .before .before .parse-meta .ensures) (c .before .item-id .given .1) .order)
+part-iloc-start c = omega (arith, iloc (c .before) .order)
 
 part-iloc-end : tie.Need-part-iloc-end
-part-iloc-end c = iloc-inside _ (c .before .before .before .parse-meta .ensures) (c .before .item-id .given .1) .inner
+part-iloc-end c = iloc (c .before) .inner
 
 enum-told : tie.Need-enum-told
 enum-told c = search needs
@@ -41,26 +49,22 @@ extract-item-requires c κs = search needs
 enum-known-idat : tie.Need-enum-known-idat
 enum-known-idat c = search needs
 
+-- and so does the last `idat`
+idat : (c : tie.After-idat)
+    → let p = c .idat .given .0 in
+    Lies (length (c .before .before .before .before .before .before .before .before .before .before .args .body .now)) (record { from = p .0; to = p .1 .0 })
+idat c =
+    let found = c .before .before .before .before in
+    idat-inside _ (found .before .before .parse-meta .ensures) (found .item-id .given .1) (c .idat .given .1)
+
 sub-extract-item-2 : tie.Need-sub-extract-item-2
-sub-extract-item-2 c =
-    let idat = c .before in
-    let found = idat .before .before .before .before in
-    let kept = found .before .before in
-    idat-inside _ (kept .parse-meta .ensures) (found .item-id .given .1) (idat .idat .given .1) .order
+sub-extract-item-2 c = idat (c .before) .order
 
 part-extract-item-start-2 : tie.Need-part-extract-item-start-2
-part-extract-item-start-2 c =
-    let idat = c .before in
-    let found = idat .before .before .before .before in
-    let kept = found .before .before in
-    omega (arith, idat-inside _ (kept .parse-meta .ensures) (found .item-id .given .1) (idat .idat .given .1) .order)
+part-extract-item-start-2 c = omega (arith, idat (c .before) .order)
 
 part-extract-item-end-2 : tie.Need-part-extract-item-end-2
-part-extract-item-end-2 c =
-    let idat = c .before in
-    let found = idat .before .before .before .before in
-    let kept = found .before .before in
-    idat-inside _ (kept .parse-meta .ensures) (found .item-id .given .1) (idat .idat .given .1) .inner
+part-extract-item-end-2 c = idat (c .before) .inner
 
 extract-item-requires-2 : tie.Need-extract-item-requires-2
 extract-item-requires-2 c κs = search needs

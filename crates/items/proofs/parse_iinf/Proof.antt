@@ -1,5 +1,8 @@
--- By the version, each with its law.
+-- The version alone decides how wide the count is, and the boxes start behind it: so each arm is the definition at its version.
+use mathlib.Core.Path.{_≡_}
 use borrow.Author.Needs.{needs}
+use Rattle.rules.specs.Doc.Outcomes.{fine}
+use Rattle.rules.specs.Doc.Bytes.{version}
 use Rattle.items.specs.Wanted.{iinf-cut, iinf-zero, iinf-other}
 use Rattle.items.proofs.parse_iinf.Statement.{statement}
 use Rattle.items.proofs.parse_iinf.Tie as tie
@@ -25,22 +28,20 @@ uint32-requires c κs = search needs
 entries-requires-2 : tie.Need-entries-requires-2
 entries-requires-2 c κs = search needs
 
+-- the version that was read
+read : (c : tie.After-version) → fine (c .version .given .0 .0) ≡ version (c .before .before .before .before .args .body .now) 0
+read c = rw (c .version .given .1) at (c .before .before .fullbox-header .ensures)
+
 returns : tie.Need-returns
 returns c =
     let v = rw (c .before .e .given .1) at (c .before .before .before .fullbox-header .ensures) in
     search iinf-cut
 
 returns-2 : tie.Need-returns-2
-returns-2 c =
-    let k = c .before .before .before .before in
-    let v = rw (k .version .given .1) at (k .before .before .fullbox-header .ensures) in
-    search iinf-zero
+returns-2 c = let v = read (c .before .before .before .before) in search iinf-zero
 
 returns-3 : tie.Need-returns-3
-returns-3 c =
-    let k = c .before .before .before .before in
-    let v = rw (k .version .given .1) at (k .before .before .fullbox-header .ensures) in
-    search iinf-other
+returns-3 c = let v = read (c .before .before .before .before) in search iinf-other
 
 pub parse-iinf-spec : {M : Type 1} → statement M
 parse-iinf-spec =

@@ -1,4 +1,4 @@
--- As many bytes are shown as the caller counts in the text.
+-- The caller has shown that the text has n bytes (`requires`), so the part that is written lies inside.
 use borrow.Author.Needs.{needs}
 use Rattle.rules.specs.Laws.Numbers.{first-part}
 use Rattle.list_boxes.proofs.show.Statement.{statement}

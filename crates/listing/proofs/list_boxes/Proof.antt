@@ -1,4 +1,5 @@
--- The lines, and behind them the last line, by how the lines ended; or the last line alone.
+-- The listing is the lines and behind them the last line, which goes by how the lines ended, and that is what `list_run` answers. An image that is
+-- too long has the last line alone.
 use native.Mathlib.Omega.{arith}
 use borrow.Author.Needs.{needs}
 use Rattle.rules.specs.Doc.Listing.{textOf}

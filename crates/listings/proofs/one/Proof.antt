@@ -1,4 +1,6 @@
--- Both lengths are within the buffers, since the case was read.
+-- `next_case` promises of a case that it read that both lengths are within the buffers: so the parts that are lent are inside.
+use Prim.Native.Nat.{_≤_}
+use lib.ListN.{length}
 use borrow.Author.Needs.{needs}
 use Rattle.rules.specs.Laws.Numbers.{first-part}
 use Rattle.listings.proofs.one.Statement.{statement}
@@ -7,8 +9,8 @@ use Rattle.listings.proofs.one.Tie as tie
 next-case-requires : tie.Need-next-case-requires
 next-case-requires c κs = search needs
 
-enum-known-n : tie.Need-enum-known-n
-enum-known-n c = search needs
+enum-known-image-len : tie.Need-enum-known-image-len
+enum-known-image-len c = search needs
 
 enum-told : tie.Need-enum-told
 enum-told c = search needs
@@ -19,25 +21,24 @@ same-length c = search needs
 returns : tie.Need-returns
 returns c = search needs
 
+-- both lengths are within the buffers
+within : (c : tie.After-image-len)
+    → let read = c .before .before .before .before in
+    (c .image-len .given .0 .0 ≤ length (read .next-case .last .1 .0))
+    × (c .image-len .given .0 .1 .0 ≤ length (read .before .before .before .before .args .out .now))
+within c = rw (c .image-len .given .1) at (c .before .before .before .before .next-case .ensures)
+
 slice-reshare-prefix-list : tie.Need-slice-reshare-prefix-list
-slice-reshare-prefix-list c =
-    let read = c .before in
-    (rw (read .n .given .1) at (read .before .before .before .before .next-case .ensures)) .0
+slice-reshare-prefix-list c = within (c .before) .0
 
 slice-aggregate-list : tie.Need-slice-aggregate-list
-slice-aggregate-list c =
-    let read = c .before .before in
-    first-part _ _ ((rw (read .n .given .1) at (read .before .before .before .before .next-case .ensures)) .0)
+slice-aggregate-list c = first-part _ _ (within (c .before .before) .0)
 
 slice-relend-prefix-list : tie.Need-slice-relend-prefix-list
-slice-relend-prefix-list c =
-    let read = c .before .before in
-    (rw (read .n .given .1) at (read .before .before .before .before .next-case .ensures)) .1
+slice-relend-prefix-list c = within (c .before .before) .1
 
 slice-aggregate-list-2 : tie.Need-slice-aggregate-list-2
-slice-aggregate-list-2 c =
-    let read = c .before .before .before in
-    first-part _ _ ((rw (read .n .given .1) at (read .before .before .before .before .next-case .ensures)) .1)
+slice-aggregate-list-2 c = first-part _ _ (within (c .before .before .before) .1)
 
 list-requires : tie.Need-list-requires
 list-requires c κs = search needs
@@ -56,7 +57,7 @@ one-spec =
     tie.close
     (tie.spec
     next-case-requires
-    enum-known-n
+    enum-known-image-len
     enum-told
     same-length
     returns

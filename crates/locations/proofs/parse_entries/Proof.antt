@@ -1,4 +1,4 @@
--- The loop: the entries that are left decide, with the last wanted one so far, what all of them do.
+-- The entries that are left, with the last wanted one so far, decide what all of them do.
 use mathlib.Core.Path.{_≡_}
 use Prim.Native.Nat.{_-_, _≤_}
 use native.Mathlib.Omega.{arith}

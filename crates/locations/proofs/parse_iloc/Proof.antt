@@ -1,4 +1,5 @@
--- The head, then the entries.
+-- The definition is the head, and then the entries of the table that the head is; the sizes in a table are half-bytes, which is what `parse_entries`
+-- asks for.
 use Rattle.rules.specs.Doc.Iloc.{chosen}
 use Rattle.rules.specs.Laws.Entries.{table-small}
 use borrow.Author.Needs.{needs}

@@ -19,11 +19,10 @@ use Rattle.rules.specs.Doc.Outcomes.{fine}
 use Rattle.rules.specs.Doc.Lists.{any}
 use Rattle.rules.specs.Doc.Bytes.{numberAt, Span, sizeOf, bytesIn, field, version}
 use Rattle.rules.specs.Doc.Walks.{outcome}
-use Rattle.rules.specs.Doc.Headers.{meta, Box, boxOf, whole, childAt}
+use Rattle.rules.specs.Doc.Headers.{meta, Box, boxOf, childAt}
 use Rattle.rules.specs.Doc.Ftyp.{topLevel, top}
 use Rattle.rules.specs.Doc.Meta.{opened, metaTest}
 use Rattle.rules.specs.Doc.Children.{children}
-use Rattle.rules.specs.Doc.Join.{moved}
 use Rattle.rules.specs.Doc.Answers.{answer}
 use Rattle.rules.specs.Doc.Text.{ascii}
 use Rattle.rules.specs.Doc.Listing.{finished, _then_, holders, behind, opening, childrenOf, depthOver, openBox, listRun, newline, listing}

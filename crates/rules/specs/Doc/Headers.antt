@@ -54,7 +54,7 @@ headerOf n at size kind large =
 
 -- A header is a four-byte size and a four-byte type. Size 1: an eight-byte size follows.
 unfoldable pub headerAt : List ℕ → ℕ → Option Header
-headerAt s at = headerOf (length s) at (numberAt s at 4) (numberAt s (at + 4) 4) (numberAt s (at + 8) 8)
+headerAt s at = headerOf (length s) at (numberAt s at 4) (numberAt s (at + 4) 4) (numberAt s (at + short) 8)
 
 -- The body follows the header.
 abbrev pub bodyFrom : Header → ℕ

@@ -1,4 +1,4 @@
--- `is_heif`.
+-- `is_heif`: whether the first `ftyp` has a known brand.
 use Prim.Native.Nat.{ℕ}
 use mathlib.Core.Bool.{Bool}
 use mathlib.Core.List.{List}

@@ -18,7 +18,7 @@ use Rattle.rules.specs.Doc.Join.{Plan, moved, movedOption, planOf, plan,
 use Rattle.rules.specs.Doc.Block.{bytesAt, block}
 use Rattle.rules.specs.Doc.Answers.{answer}
 use Rattle.rules.specs.Laws.Agreement.{part-at}
-use Rattle.rules.specs.OverBytes.{blockFrom, chosenBlock, itemBlock, blockBytes, storeIn, keptBlock, metaBlock, answerOf}
+use Rattle.rules.specs.OverBytes.{blockFrom, chosenBlock, itemBlock, planBlock, blockBytes, storeIn, keptBlock, metaBlock, answerOf}
 use Rattle.rules.specs.Laws.Gather.{onFine, block-gathered, answer-gathered}
 use Rattle.rules.specs.Laws.Lies.{Lies, part-size, opened-lies, idat-lies}
 use Rattle.rules.specs.Laws.Numbers.{bytes-in}
@@ -73,11 +73,7 @@ module _ (img : List ℕ) (m : Box) (e : opened img ≡ fine m) where
       go false false true o l = refl
       go false false false o l = refl
 
-  kept-lent : (k : Kept) → kept body ≡ fine k
-      → (planOf (m .body .from) body k
-      >>= λ p. sourceOf (length img) (p .idat) (p .entry .method)
-      >>= λ source. blockFrom (lies (p .entry .method) (length (bytesIn img source)) (p .entry .base)) (bytesIn img source) (p .parts))
-      ≡ keptBlock img body k
+  kept-lent : (k : Kept) → kept body ≡ fine k → (planOf (m .body .from) body k >>= planBlock img) ≡ keptBlock img body k
   unfolding planOf keptBlock itemBlock chosenBlock
   kept-lent k h =
       let table : List ℕ = bytesIn body (k .iloc) in
@@ -89,10 +85,7 @@ module _ (img : List ℕ) (m : Box) (e : opened img ≡ fine m) where
       planned : List ℕ → Chosen → Plan
       planned table c = record { entry = c .entry; parts = extents (c .sizes) table (c .entry) .list; idat = movedOption (m .body .from) (k .idat) }
 
-  meta-lent : (plan (m .body .from) body
-      >>= λ p. sourceOf (length img) (p .idat) (p .entry .method)
-      >>= λ source. blockFrom (lies (p .entry .method) (length (bytesIn img source)) (p .entry .base)) (bytesIn img source) (p .parts))
-      ≡ metaBlock img body
+  meta-lent : (plan (m .body .from) body >>= planBlock img) ≡ metaBlock img body
   unfolding plan metaBlock
   meta-lent = bind-assoc (kept body) (planOf (m .body .from) body) _ ∙ bind-known (kept body) (λ k h. kept-lent k h)
 

@@ -15,7 +15,7 @@ use Rattle.rules.specs.Doc.Headers.{meta, iinf, Box, is, childAt}
 use Rattle.rules.specs.Doc.Iinf.{countSize}
 use Rattle.rules.specs.Doc.Listing.{Listing, finished, fault, line, _then_, holders, behind, behindCount, opening}
 use Rattle.rules.specs.Doc.Listing.{listedAt, rowOf, runOf, childrenOf, depthOver, openBox, listRun, lineText, textOf}
-use Rattle.rules.specs.Laws.Rows.{by-test}
+use Rattle.rules.specs.Laws.Rows.{by-test, enough}
 use Rattle.rules.specs.Laws.Headers.{child-inside}
 
 -- ---- Lines, and how they end
@@ -77,21 +77,20 @@ module _ (depth : ℕ) (inner : Box → Listing) (s : List ℕ) where
       let i = child-inside s at c in
       rw (e (b .body .to) (omega arith))
 
-  -- any two counts that are large enough give the same
-  enough : (n m at : ℕ) → length s ≤ at + n → length s ≤ at + m → rowOf depth inner s n at ≡ rowOf depth inner s m at
+  row-unroll : (at : ℕ) → rowOf depth inner s (length s) at
+      ≡ (if leb (length s) at then finished else listedAt depth at (childAt s at) inner (rowOf depth inner s (length s)))
   unfolding rowOf
-  enough zero zero at h k = refl
-  enough zero (suc m) at h k = rw (le-leb (length s) at (omega arith))
-  enough (suc n) zero at h k = rw (le-leb (length s) at (omega arith))
-  enough (suc n) (suc m) at h k =
-      ap (λ (l : Listing). if leb (length s) at then finished else l)
-      (at-cong at (childAt s at) refl (rowOf depth inner s n) (rowOf depth inner s m) (λ q j. enough n m q (omega arith) (omega arith)))
+  row-unroll at =
+      enough (rowOf depth inner s) (λ at. length s - at) (λ n at z. rw (le-leb (length s) at (omega arith)))
+      (λ n m at e. ap (λ (l : Listing). if leb (length s) at then finished else l)
+      (at-cong at (childAt s at) refl (rowOf depth inner s n) (rowOf depth inner s m) (λ q j. e q (omega arith))))
+      (length s) (suc (length s)) at (omega arith) (omega arith)
 
 module _ (levels : ℕ) (s : List ℕ) (at : ℕ) where
   unroll : listRun levels s at
       ≡ (if leb (length s) at then finished else listedAt (depthOver levels) at (childAt s at) (openBox levels s) (listRun levels s))
-  unfolding listRun runOf rowOf
-  unroll = enough (depthOver levels) (openBox levels s) s (length s) (suc (length s)) at (omega arith) (omega arith)
+  unfolding listRun runOf
+  unroll = row-unroll (depthOver levels) (openBox levels s) s at
 
   pub run-done : length s ≤ at → listRun levels s at ≡ finished
   run-done h = unroll ∙ rw (le-leb (length s) at h)
@@ -117,6 +116,18 @@ module _ (s : List ℕ) (b : Box) where
 
 -- ---- Where children start
 
+-- what holds however many bytes stand before the children, of a version that is refused and of a leaf, holds of every box
+pub by-opening : (P : Outcome (Option ℕ) → Type 0) (s : List ℕ) (b : Box)
+    → ((n : ℕ) → P (behind n b)) → ((k : ℕ) → refused k ≡ version (bytesIn s (b .body)) 0 → P (refused k)) → P (fine none) → P (opening s b)
+unfolding behindCount opening
+by-opening P s b children cut leaf =
+    by-test P (any (λ k. is k b) holders) (λ e. children 0)
+    (λ e. by-test P (is meta b) (λ e. children 4) (λ e. by-test P (is iinf b) (λ e. counted (version (bytesIn s (b .body)) 0) refl) (λ e. leaf)))
+  where
+    counted : (v : Outcome ℕ) → v ≡ version (bytesIn s (b .body)) 0 → P (v >>= λ v. behind (4 + countSize v) b)
+    counted (fine v) e = children (4 + countSize v)
+    counted (refused k) e = cut k e
+
 -- children that start in a body, or nothing that could lie elsewhere
 abbrev Ahead : ℕ → Outcome (Option ℕ) → Type 0
 Ahead start (refused k) = Unit {0}
@@ -131,16 +142,8 @@ module _ (b : Box) where
   unfolding behind
   behind-ahead n = by-test InBody (ltb (sizeOf (b .body)) n) (λ e. tt) (λ e. omega arith)
 
-  count-ahead : (v : Outcome ℕ) → InBody (v >>= λ v. behind (4 + countSize v) b)
-  count-ahead (refused k) = tt
-  count-ahead (fine v) = behind-ahead (4 + countSize v)
-
   opening-ahead : (s : List ℕ) → InBody (opening s b)
-  unfolding behindCount opening
-  opening-ahead s =
-      by-test InBody (any (λ k. is k b) holders) (λ e. behind-ahead 0)
-      (λ e. by-test InBody (is meta b) (λ e. behind-ahead 4)
-      (λ e. by-test InBody (is iinf b) (λ e. count-ahead (version (bytesIn s (b .body)) 0)) (λ e. tt)))
+  opening-ahead s = by-opening InBody s b behind-ahead (λ k e. tt) tt
 
 pub children-ahead : (s : List ℕ) (b : Box) {from : ℕ} → fine (some from) ≡ opening s b → b .body .from ≤ from
 children-ahead s b e = subst (Ahead (b .body .from)) (sym e) (opening-ahead b s)

@@ -8,17 +8,16 @@ use lib.ListN.{length, take, drop, length-append}
 use lib.Seq.{length-take-le, take-all}
 use lib.Dec.{leb, ltb}
 use borrow.Author.Tests.{ltb-false, leb-false}
-use Rattle.rules.specs.Doc.Outcomes.{Outcome, fine, refused, _>>=_}
-use Rattle.rules.specs.Doc.Lists.{any}
-use Rattle.rules.specs.Doc.Bytes.{sizeOf, bytesIn, version}
-use Rattle.rules.specs.Doc.Headers.{meta, iinf, Box, is, childAt}
-use Rattle.rules.specs.Doc.Iinf.{countSize}
-use Rattle.rules.specs.Doc.Listing.{lineOf, Listing, finished, fault, line, _then_, holders, behind, behindCount, opening, listedAt, rowOf, runOf, childrenOf, deepest}
+use Rattle.rules.specs.Doc.Outcomes.{Outcome, fine, refused}
+use Rattle.rules.specs.Doc.Bytes.{sizeOf, bytesIn}
+use Rattle.rules.specs.Doc.Headers.{Box, childAt}
+use Rattle.rules.specs.Doc.Listing.{lineOf, Listing, finished, fault, line, _then_, behind, opening, listedAt, rowOf, runOf, childrenOf, deepest}
 use Rattle.rules.specs.Doc.Listing.{depthOver, openBox, listRun, frontText, lineText, lastText, textOf, longest, listing, printed}
 use Rattle.rules.specs.Laws.Rows.{by-test}
 use Rattle.rules.specs.Laws.Headers.{Inside, child-inside}
-use Rattle.rules.specs.Laws.Refusals.{Numbered, version-numbered, child-numbered, refusal-below}
+use Rattle.rules.specs.Laws.Refusals.{version-numbered, child-numbered, refusal-below}
 use Rattle.rules.specs.Laws.Text.{one-digit, two-digits, five-digits, hex-length}
+use Rattle.rules.specs.Laws.Listing.{by-opening}
 
 line-length : (levels n at : ℕ) (b : Box) → n ≤ longest → Inside n at b → length (lineText (lineOf (depthOver levels) b)) ≤ 56
 unfolding frontText lineText lineOf
@@ -68,17 +67,11 @@ module _ (b : Box) (h : b .start ≤ longest) (children : ℕ → Listing) (on :
   behind-short n =
       by-test Opened (ltb (sizeOf (b .body)) n) (λ e. last-length (b .start) 3 h (omega arith)) (λ e. on (b .body .from + n) (sizeOf (b .body)) (omega arith))
 
-  version-short : (o : Outcome ℕ) → Numbered o → Opened (o >>= λ v. behind (4 + countSize v) b)
-  unfolding childrenOf
-  version-short (fine v) p = behind-short (4 + countSize v)
-  version-short (refused k) p = last-length (b .start) k h (omega (arith, refusal-below k p))
-
   opening-short : (s : List ℕ) → Opened (opening s b)
-  unfolding childrenOf behindCount opening
+  unfolding childrenOf
   opening-short s =
-      by-test Opened (any (λ k. is k b) holders) (λ e. behind-short 0)
-      (λ e. by-test Opened (is meta b) (λ e. behind-short 4)
-      (λ e. by-test Opened (is iinf b) (λ e. version-short (version (bytesIn s (b .body)) 0) (version-numbered (bytesIn s (b .body)) 0)) (λ e. tt)))
+      by-opening Opened s b behind-short
+      (λ k e. last-length (b .start) k h (omega (arith, refusal-below k (rw (← e) at (version-numbered (bytesIn s (b .body)) 0))))) tt
 
 -- ---- A run of boxes
 

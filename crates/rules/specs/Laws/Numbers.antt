@@ -1,4 +1,4 @@
--- Laws of numbers and fields.
+-- How large a number of n bytes can be, when a field is read and when it is refused, and the bytes of a span that fits.
 use mathlib.Core.Path.{_≡_, sym}
 use mathlib.Core.List.{List}
 use Prim.Native.Nat.{ℕ, zero, suc, _+_, _*_, _^_, _≤_, _<_}

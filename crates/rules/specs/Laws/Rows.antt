@@ -1,6 +1,6 @@
--- Steps in a row: what follows from how they ended.
-use mathlib.Core.Path.{_≡_, refl}
-use Prim.Native.Nat.{ℕ}
+-- Steps in a row: what follows from how they ended, and that it doesn't matter how many are allowed, if they are enough.
+use mathlib.Core.Path.{_≡_, refl, sym}
+use Prim.Native.Nat.{ℕ, zero, suc, _-_, _≤_}
 use native.Mathlib.Omega.{arith}
 use mathlib.Core.Bool.{Bool, true, false}
 use mathlib.Core.Option.{Option, none, some}
@@ -39,3 +39,12 @@ bind-cong o e = bind-known o (λ x f. e x)
 pub by-test : {A : Type 0} (P : A → Type 0) (t : Bool) {x y : A} → (t ≡ true → P x) → (t ≡ false → P y) → P (if t then x else y)
 by-test P true p q = p refl
 by-test P false p q = q refl
+
+-- `f n a` takes at most n steps from a, and at most `size a` are left there: any two counts that are enough give the same
+module _ {A B : Type 0} (f : ℕ → A → B) (size : A → ℕ) (over : (n : ℕ) (a : A) → size a ≡ 0 → f (suc n) a ≡ f zero a)
+    (step : (n m : ℕ) (a : A) → ((x : A) → size x ≤ size a - 1 → f n x ≡ f m x) → f (suc n) a ≡ f (suc m) a) where
+  pub enough : (n m : ℕ) (a : A) → size a ≤ n → size a ≤ m → f n a ≡ f m a
+  enough zero zero a h k = refl
+  enough zero (suc m) a h k = sym (over m a (omega arith))
+  enough (suc n) zero a h k = over n a (omega arith)
+  enough (suc n) (suc m) a h k = step n m a (λ x j. enough n m x (omega arith) (omega arith))

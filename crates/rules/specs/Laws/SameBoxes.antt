@@ -29,6 +29,14 @@ module _ (a b : List ℕ) (n at : ℕ) where
   abbrev headerFrom : List ℕ → Option Header
   headerFrom s = headerOf n at (numberAt s at 4) (numberAt s (at + 4) 4) (numberAt s (at + 8) 8)
 
+  -- in the first k bytes there stand the size and the type
+  module _ (k : ℕ) (r : Range a b at (at + k)) where
+    size-same : 4 ≤ k → numberAt a at 4 ≡ numberAt b at 4
+    size-same h = number-same a b at (at + k) at 4 r (omega arith) (omega arith)
+
+    kind-same : 8 ≤ k → numberAt a (at + 4) 4 ≡ numberAt b (at + 4) 4
+    kind-same h = number-same a b at (at + k) (at + 4) 4 r (omega arith) (omega arith)
+
   headers-same : (t₁ t₂ t₃ : Bool) → ltb n (at + 8) ≡ t₁ → eqb (numberAt a at 4) 1 ≡ t₂ → ltb n (at + 16) ≡ t₃
       → Agree a b (headerBytes n at (headerFrom a)) → headerFrom a ≡ headerFrom b
   unfolding headerBytes
@@ -37,20 +45,20 @@ module _ (a b : List ℕ) (n at : ℕ) where
       let v : headerFrom a ≡ none = none-long n at _ _ _ e₁ e₂ e₃ in
       let r : Range a b at (at + (n - at)) = range-of a b at (n - at) (rw v at g) in
       let h : at + 8 ≤ n = omega (arith, ltb-false n (at + 8) e₁) in
-      let p : numberAt a at 4 ≡ numberAt b at 4 = number-same a b at (at + (n - at)) at 4 r (omega arith) (omega arith) in
+      let p = size-same (n - at) r (omega arith) in
       v ∙ sym (none-long n at _ _ _ e₁ (rw p at e₂) e₃)
   headers-same false true false e₁ e₂ e₃ g =
       let v : headerFrom a ≡ _ = some-long n at (numberAt a at 4) (numberAt a (at + 4) 4) (numberAt a (at + 8) 8) e₁ e₂ e₃ in
       let r : Range a b at (at + 16) = range-of a b at 16 (rw v at g) in
-      let p : numberAt a at 4 ≡ numberAt b at 4 = number-same a b at (at + 16) at 4 r (omega arith) (omega arith) in
-      let q : numberAt a (at + 4) 4 ≡ numberAt b (at + 4) 4 = number-same a b at (at + 16) (at + 4) 4 r (omega arith) (omega arith) in
+      let p = size-same 16 r (omega arith) in
+      let q = kind-same 16 r (omega arith) in
       let u : numberAt a (at + 8) 8 ≡ numberAt b (at + 8) 8 = number-same a b at (at + 16) (at + 8) 8 r (omega arith) (omega arith) in
       cc
   headers-same false false t₃ e₁ e₂ e₃ g =
       let v : headerFrom a ≡ _ = some-short n at (numberAt a at 4) (numberAt a (at + 4) 4) (numberAt a (at + 8) 8) e₁ e₂ in
       let r : Range a b at (at + 8) = range-of a b at 8 (rw v at g) in
-      let p : numberAt a at 4 ≡ numberAt b at 4 = number-same a b at (at + 8) at 4 r (omega arith) (omega arith) in
-      let q : numberAt a (at + 4) 4 ≡ numberAt b (at + 4) 4 = number-same a b at (at + 8) (at + 4) 4 r (omega arith) (omega arith) in
+      let p = size-same 8 r (omega arith) in
+      let q = kind-same 8 r (omega arith) in
       let w : headerFrom b ≡ _ = some-short n at (numberAt b at 4) (numberAt b (at + 4) 4) (numberAt b (at + 8) 8) e₁ (rw p at e₂) in
       cc
 

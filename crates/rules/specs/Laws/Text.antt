@@ -9,29 +9,30 @@ use lib.Dec.{ltb}
 use borrow.Author.Tests.{lt-ltb, le-ltb, ltb-true, ltb-false}
 use Rattle.rules.specs.Doc.Outcomes.{if_then_else_}
 use Rattle.rules.specs.Doc.Text.{digit, hex, decimalTo, decimal}
+use Rattle.rules.specs.Laws.Rows.{enough}
 
 -- ---- Decimal numbers
 
--- any two counts that are large enough give the same
-enough : (f g n : ℕ) → n ≤ f → n ≤ g → decimalTo f n ≡ decimalTo g n
+digits-same : (f g n : ℕ) → ((m : ℕ) → m ≤ n - 1 → decimalTo f m ≡ decimalTo g m) → decimalTo (suc f) n ≡ decimalTo (suc g) n
 unfolding decimalTo
-enough zero zero n h k = refl
-enough zero (suc g) n h k = let e : n ≡ 0 = omega arith in rw e
-enough (suc f) zero n h k = let e : n ≡ 0 = omega arith in rw e
-enough (suc f) (suc g) n h k = go (ltb n 10) refl (λ l. enough f g (n / 10) (omega arith) (omega arith))
+digits-same f g n e = go (ltb n 10) refl
   where
-    go : (t : Bool) → ltb n 10 ≡ t → (10 ≤ n → decimalTo f (n / 10) ≡ decimalTo g (n / 10))
+    go : (t : Bool) → ltb n 10 ≡ t
         → (if t then digit n ∷ [] else decimalTo f (n / 10) ++ (digit (n % 10) ∷ [])) ≡ (if t then digit n ∷ [] else decimalTo g (n / 10) ++ (digit (n % 10) ∷ []))
-    go true e ih = refl
-    go false e ih = rw (ih (ltb-false n 10 e))
+    go true l = refl
+    go false l = rw (e (n / 10) (omega (arith, ltb-false n 10 l)))
+
+decimal-to : (f g n : ℕ) → n ≤ f → n ≤ g → decimalTo f n ≡ decimalTo g n
+unfolding decimalTo
+decimal-to = enough decimalTo (λ n. n) (λ f n z. rw z) digits-same
 
 pub decimal-one : (n : ℕ) → n < 10 → decimal n ≡ digit n ∷ []
 unfolding decimal decimalTo
-decimal-one n h = enough n (suc n) n (omega arith) (omega arith) ∙ rw (lt-ltb n 10 h)
+decimal-one n h = decimal-to n (suc n) n (omega arith) (omega arith) ∙ rw (lt-ltb n 10 h)
 
 pub decimal-more : (n : ℕ) → 10 ≤ n → decimal n ≡ decimal (n / 10) ++ (digit (n % 10) ∷ [])
 unfolding decimal decimalTo
-decimal-more n h = enough n (suc n) n (omega arith) (omega arith) ∙ rw (le-ltb n 10 h, enough n (n / 10) (n / 10) (omega arith) (omega arith))
+decimal-more n h = decimal-to n (suc n) n (omega arith) (omega arith) ∙ rw (le-ltb n 10 h, decimal-to n (n / 10) (n / 10) (omega arith) (omega arith))
 
 -- ---- Numbers in base 16
 

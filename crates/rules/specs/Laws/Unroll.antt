@@ -1,7 +1,7 @@
 -- The equation that a reader expects of the boxes from a position: one step, and the boxes after it. Proofs use this, and nothing after it
 -- looks at how many steps `run` allows.
 use mathlib.Core.Path.{_≡_, refl, ap}
-use Prim.Native.Nat.{ℕ, zero, suc, _+_, _≤_, _<_}
+use Prim.Native.Nat.{ℕ, suc, _-_, _<_}
 use native.Mathlib.Omega.{arith}
 use mathlib.Core.List.{List}
 use lib.ListN.{length}
@@ -10,6 +10,7 @@ use Rattle.rules.specs.Doc.Outcomes.{fine, refused}
 use Rattle.rules.specs.Doc.Walks.{onward, halt, Step, over, cut, met, Walk, walked, judged, after, run}
 use Rattle.rules.specs.Doc.Headers.{Box}
 use Rattle.rules.specs.Doc.Levels.{Level, levelStep, boxes}
+use Rattle.rules.specs.Laws.Rows.{enough}
 use Rattle.rules.specs.Laws.BoxRow.{Reads, reads-ahead, step-reads}
 
 module _ (l : Level) (s : List ℕ) where
@@ -21,15 +22,9 @@ module _ (l : Level) (s : List ℕ) where
   after-cong at (met b (fine halt)) p f g e = refl
   after-cong at (met b (fine (onward next))) p f g e = ap (walked b) (e next (reads-ahead l s at next p))
 
-  -- any two counts that are large enough give the same
-  enough : (n m at : ℕ) → length s ≤ at + n → length s ≤ at + m → run (levelStep l s) n at ≡ run (levelStep l s) m at
-  unfolding run after levelStep
-  enough zero zero at h k = refl
-  enough zero (suc m) at h k = rw (le-leb (length s) at (omega arith))
-  enough (suc n) zero at h k = rw (le-leb (length s) at (omega arith))
-  enough (suc n) (suc m) at h k =
-      after-cong at (levelStep l s at) (step-reads l s at) (run (levelStep l s) n) (run (levelStep l s) m) (λ q j. enough n m q (omega arith) (omega arith))
-
   pub boxes-unroll : (at : ℕ) → boxes l s at ≡ after at (levelStep l s at) (boxes l s)
-  unfolding boxes run
-  boxes-unroll at = enough (length s) (suc (length s)) at (omega arith) (omega arith)
+  unfolding boxes run after levelStep
+  boxes-unroll at =
+      enough (run (levelStep l s)) (λ at. length s - at) (λ n at z. rw (le-leb (length s) at (omega arith)))
+      (λ n m at e. after-cong at (levelStep l s at) (step-reads l s at) (run (levelStep l s) n) (run (levelStep l s) m) (λ q j. e q (omega arith)))
+      (length s) (suc (length s)) at (omega arith) (omega arith)

@@ -1,4 +1,4 @@
--- The loop: the bytes up to `i` are written.
+-- The bytes up to `i` are written, each turn writes one more behind them, and at the end these are all.
 use mathlib.Core.Path.{_≡_, refl, _∙_}
 use Prim.Native.Nat.{_-_, _≤_}
 use native.Mathlib.Omega.{arith}

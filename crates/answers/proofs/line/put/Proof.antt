@@ -1,4 +1,5 @@
--- The place after what was put stays inside the text; the measure is the part's bytes that are still to come.
+-- A byte is written only where there is room, so the place after it stays inside the text, whose length no write changes. The measure is the part's
+-- bytes that are still to come.
 use mathlib.Core.Path.{_≡_}
 use Prim.Native.Nat.{_-_, _≤_}
 use native.Mathlib.Omega.{arith}

@@ -1,4 +1,4 @@
--- The place after what was put stays inside the text; the measure is the bytes that are still to come.
+-- Each turn's place is the one that `put_pair` answers, and that stays inside the text. The measure is the bytes that are still to come.
 use mathlib.Core.Path.{_≡_}
 use Prim.Native.Nat.{_-_, _≤_}
 use lib.ListN.{length}

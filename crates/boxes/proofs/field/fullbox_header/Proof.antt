@@ -1,4 +1,4 @@
--- What `uint32` says of the four bytes is what the version is taken from.
+-- The definition takes the version from the four-byte field at that place, and what that field is, `uint32` has said.
 use borrow.Author.Needs.{needs}
 use Rattle.rules.specs.Doc.Bytes.{version}
 use Rattle.boxes.proofs.field.fullbox_header.Statement.{statement}

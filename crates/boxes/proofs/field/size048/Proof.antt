@@ -1,4 +1,5 @@
--- Each width by the function that reads it; another size by its law.
+-- The sizes that the arms name are those that the definition lets pass; a field of 4 or 8 bytes is what `uint32` or `uint64` says, and one of no
+-- bytes is 0 unless its place is past the end.
 use mathlib.Core.Path.{refl}
 use native.Mathlib.Omega.{arith}
 use borrow.Author.Needs.{needs}

@@ -1,4 +1,5 @@
--- Too few bytes, or the load: the two laws of a field, at width 2.
+-- A field doesn't fit exactly where fewer bytes are left than it has, which is the test; where it fits, it is the number that the load gives. Both
+-- are laws for every width, taken here at 2.
 use native.Mathlib.Omega.{arith}
 use borrow.Author.Needs.{needs}
 use Rattle.rules.specs.Laws.Numbers.{field-in, field-out}

@@ -1,4 +1,5 @@
--- By the header; one that was read, by the laws of Laws/Decision.
+-- A header that is cut or invalid is refused whatever stands behind it. One that was read announces a body, of which the definition asks two things,
+-- and the two tests ask the same: that it can be addressed, and that it ends inside.
 use native.Mathlib.Omega.{arith}
 use mathlib.Core.Logic.{⊎-elim}
 use Rattle.rules.specs.Laws.Decision.{child-beyond, child-cut, child-whole}

@@ -1,4 +1,5 @@
--- Each answer by its law in Laws/Decision; `e` is the box that the header announces.
+-- `Header::read` says what is announced, here with 2 for a cut header. Of an announced box, `e`, the definition asks only whether its type is skipped
+-- and its body then below 2^63, and so do the arms (Laws/Decision).
 use borrow.Author.Needs.{needs}
 use Rattle.rules.specs.Doc.Headers.{boxAt, fileBoxAt}
 use Rattle.rules.specs.Laws.Decision.{file-opened, file-skipped, file-large}

@@ -1,4 +1,4 @@
--- Case by case, as `afterwards` has them.
+-- The definition asks for the wanted id first and for an `iloc` then, and so do the two `match`es.
 use Rattle.isobmff.specs.Children.{afterwards}
 use borrow.Author.Needs.{needs}
 use Rattle.isobmff.proofs.meta.after.Statement.{statement}

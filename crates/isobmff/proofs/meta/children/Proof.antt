@@ -2,8 +2,10 @@
 use mathlib.Core.Path.{_≡_}
 use Prim.Native.Nat.{_-_}
 use lib.ListN.{length}
+use Rattle.rules.specs.Doc.Outcomes.{_>>=_}
 use Rattle.boxes.specs.Loops.{WholeBox, box-refused, box-whole}
-use Rattle.isobmff.specs.Told.{stateOf}
+use Rattle.items.specs.Told.{idsOf}
+use Rattle.isobmff.specs.Told.{spanOf, stateOf}
 use Rattle.isobmff.specs.Children.{childrenFrom, childrenOver, children-start, children-over}
 use Rattle.isobmff.specs.Children.{child-cut, child-iinf, child-iloc, child-idat, child-other}
 use borrow.Author.Needs.{needs}
@@ -61,14 +63,22 @@ parse-iinf-requires c κs = search needs
 enum-known-e-2 : tie.Need-enum-known-e-2 Inv-loop μ-loop
 enum-known-e-2 c = search needs
 
-returns-2 : tie.Need-returns-2 Inv-loop μ-loop
-returns-2 c =
-    let read = c .before .before .before in
-    let type = read .before .before in
+-- what this turn's `iinf` leaves, with the children behind it, decides
+iinf : (c : tie.After-parse-iinf Inv-loop μ-loop)
+    → let kind = c .before .before .before .before in
+    let turn = kind .before .before .before .before .before in
+    let body = turn .before .before .args .body .now in
+    (idsOf (c .parse-iinf .result)
+    >>= λ w. childrenFrom body (kind .kind .given .0 .1 .1 .0) (record { wanted = w; iloc = spanOf (turn .loop .iloc); idat = spanOf (turn .loop .idat) }))
+    ≡ childrenOver body
+iinf c =
+    let type = c .before .before in
     let kind = type .before .before in
-    let o = rw (c .before .e2 .given .1) at (read .parse-iinf .ensures) in
     let turn = kind .before .before .before .before in
-    child-iinf _ _ _ (turn .before .loop .inv) (turn .loop-test .taken) (box kind) (type .match2 .keys1) o
+    child-iinf _ _ _ (turn .before .loop .inv) (turn .loop-test .taken) (box kind) (type .match2 .keys1) (c .parse-iinf .ensures)
+
+returns-2 : tie.Need-returns-2 Inv-loop μ-loop
+returns-2 c = rw (c .before .e2 .given .1) at (iinf (c .before .before .before))
 
 enum-known-id : tie.Need-enum-known-id Inv-loop μ-loop
 enum-known-id c = search needs
@@ -77,13 +87,7 @@ loop-less : tie.Need-loop-less Inv-loop μ-loop
 loop-less c = box (c .before .before .before .before .before .before .before) .less
 
 loop-again : tie.Need-loop-again Inv-loop μ-loop
-loop-again c =
-    let read = c .before .before .before in
-    let type = read .before .before in
-    let kind = type .before .before in
-    let o = rw (c .before .id .given .1) at (read .parse-iinf .ensures) in
-    let turn = kind .before .before .before .before in
-    child-iinf _ _ _ (turn .before .loop .inv) (turn .loop-test .taken) (box kind) (type .match2 .keys1) o
+loop-again c = rw (c .before .id .given .1) at (iinf (c .before .before .before))
 
 loop-less-2 : tie.Need-loop-less-2 Inv-loop μ-loop
 loop-less-2 c = box (c .before .before) .less

@@ -1,5 +1,11 @@
--- Each answer by its law in Children.
-use Rattle.isobmff.specs.Children.{meta-cut, meta-version, meta-children}
+-- The definition reads the version, asks that it is 0, and goes on from what the children left: each return is one of these steps with what the
+-- callee said of it (Children).
+use mathlib.Core.Path.{_≡_}
+use Rattle.rules.specs.Doc.Outcomes.{fine, _>>=_}
+use Rattle.rules.specs.Doc.Bytes.{version}
+use Rattle.rules.specs.Doc.Children.{kept}
+use Rattle.isobmff.specs.Told.{metOf}
+use Rattle.isobmff.specs.Children.{afterwards, meta-cut, meta-version, meta-children}
 use borrow.Author.Needs.{needs}
 use Rattle.isobmff.proofs.meta.parse_meta.Statement.{statement}
 use Rattle.isobmff.proofs.meta.parse_meta.Tie as tie
@@ -28,31 +34,26 @@ after-requires c κs = search needs
 returns : tie.Need-returns
 returns c = meta-cut _ (rw (c .before .e .given .1) at (c .before .before .before .fullbox-header .ensures))
 
+-- the version that was read
+read : (c : tie.After-version) → fine (c .version .given .0 .0) ≡ version (c .before .before .before .before .args .body .now) 0
+read c = rw (c .version .given .1) at (c .before .before .fullbox-header .ensures)
+
+-- with version 0, what the children leave decides
+left : (c : tie.After-children)
+    → (metOf (c .children .result) >>= afterwards) ≡ kept (c .before .before .before .before .before .before .before .args .body .now)
+left c = meta-children _ (read (c .before .before .before)) (c .before .match2 .keys1) (c .children .ensures)
+
 returns-2 : tie.Need-returns-2
-returns-2 c =
-    let e2 = c .before in
-    let children = e2 .before .before in
-    let m2 = children .before in
-    let version = m2 .before .before in
-    let head = version .before .before in
-    meta-children _ (rw (version .version .given .1) at (head .fullbox-header .ensures)) (m2 .match2 .keys1) (rw (e2 .e2 .given .1) at (children .children .ensures))
+returns-2 c = rw (c .before .e2 .given .1) at (left (c .before .before .before))
 
 returns-3 : tie.Need-returns-3
 returns-3 c =
-    let read = c .before .before in
-    let children = read .before .before in
-    let m2 = children .before in
-    let version = m2 .before .before in
-    let head = version .before .before in
-    let v = rw (version .version .given .1) at (head .fullbox-header .ensures) in
-    let left = rw (read .item-id .given .1) at (children .children .ensures) in
-    rw (meta-children _ v (m2 .match2 .keys1) left) at (c .after .ensures)
+    let met = c .before .before in
+    let all = rw (met .item-id .given .1) at (left (met .before .before)) in
+    rw all at (c .after .ensures)
 
 returns-4 : tie.Need-returns-4
-returns-4 c =
-    let version = c .before .before in
-    let head = version .before .before in
-    meta-version _ (rw (version .version .given .1) at (head .fullbox-header .ensures)) (c .match2 .rest .1)
+returns-4 c = meta-version _ (read (c .before .before)) (c .match2 .rest .1)
 
 pub parse-meta-spec : {M : Type 1} → statement M
 parse-meta-spec =

@@ -3,7 +3,9 @@ use mathlib.Core.Path.{_≡_}
 use Prim.Native.Nat.{_-_}
 use native.Mathlib.Omega.{arith}
 use lib.ListN.{length}
-use Rattle.isobmff.specs.Top.{openedBody, openedFrom, opened-start, lead-next, lead-done, on-ahead}
+use Rattle.rules.specs.Doc.Outcomes.{_>>=_}
+use Rattle.isobmff.specs.Told.{nextOf}
+use Rattle.isobmff.specs.Top.{openedBody, openedFrom, opened-start, afterLead, lead-next, lead-done, on-ahead}
 use borrow.Author.Needs.{needs}
 use Rattle.isobmff.proofs.top.parse.Statement.{statement}
 use Rattle.isobmff.proofs.top.parse.Tie as tie
@@ -23,24 +25,20 @@ file-level-box-requires c κs = search needs
 enum-known-e : tie.Need-enum-known-e Inv-loop μ-loop
 enum-known-e c = search needs
 
+-- what this turn's box leads to decides
+lead : (c : tie.After-file-level-box Inv-loop μ-loop)
+    → let image = c .before .before .before .before .args .image .now in
+    (nextOf (c .file-level-box .result) >>= afterLead image) ≡ openedBody image
+lead c = lead-next _ _ _ (c .before .before .loop .inv) (c .before .loop-test .taken) (c .file-level-box .ensures)
+
 returns : tie.Need-returns Inv-loop μ-loop
-returns c =
-    let e = c .before in
-    let box = e .before .before in
-    let test = box .before in
-    let turn = test .before in
-    lead-next _ _ _ (turn .loop .inv) (test .loop-test .taken) (rw (e .e .given .1) at (box .file-level-box .ensures))
+returns c = rw (c .before .e .given .1) at (lead (c .before .before .before))
 
 enum-known-from : tie.Need-enum-known-from Inv-loop μ-loop
 enum-known-from c = search needs
 
 returns-2 : tie.Need-returns-2 Inv-loop μ-loop
-returns-2 c =
-    let f = c .before in
-    let box = f .before .before in
-    let test = box .before in
-    let turn = test .before in
-    lead-next _ _ _ (turn .loop .inv) (test .loop-test .taken) (rw (f .from .given .1) at (box .file-level-box .ensures))
+returns-2 c = rw (c .before .from .given .1) at (lead (c .before .before .before))
 
 enum-known-checked : tie.Need-enum-known-checked Inv-loop μ-loop
 enum-known-checked c = search needs
@@ -49,12 +47,7 @@ loop-less : tie.Need-loop-less Inv-loop μ-loop
 loop-less c = omega (arith, on-ahead _ _ _ (rw (c .before .checked .given .1) at (c .before .before .before .file-level-box .ensures)))
 
 loop-again : tie.Need-loop-again Inv-loop μ-loop
-loop-again c =
-    let checked = c .before in
-    let box = checked .before .before in
-    let test = box .before in
-    let turn = test .before in
-    lead-next _ _ _ (turn .loop .inv) (test .loop-test .taken) (rw (checked .checked .given .1) at (box .file-level-box .ensures))
+loop-again c = rw (c .before .checked .given .1) at (lead (c .before .before .before))
 
 returns-3 : tie.Need-returns-3 Inv-loop μ-loop
 returns-3 c = lead-done _ _ _ (c .before .loop .inv) (c .loop-test .left)

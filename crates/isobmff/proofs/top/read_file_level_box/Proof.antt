@@ -1,4 +1,5 @@
--- Each answer by its law in Top.
+-- A body fits exactly where its size is no more than what is left of the image behind its start. That is how it is tested, so that no sum can
+-- overflow; the definition has the sum (Top).
 use native.Mathlib.Omega.{arith}
 use Rattle.isobmff.specs.Top.{to-beyond, to-cut, to-whole}
 use borrow.Author.Needs.{needs}

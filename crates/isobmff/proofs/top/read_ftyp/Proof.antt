@@ -1,5 +1,7 @@
 -- Step after step as `ftypOver` has them; the body that is lent lies inside, since its end was given.
+use Prim.Native.Nat.{_≤_}
 use native.Mathlib.Omega.{arith}
+use lib.ListN.{length}
 use Rattle.isobmff.specs.Top.{ftypOver, to-inside}
 use borrow.Author.Needs.{needs}
 use Rattle.isobmff.proofs.top.read_ftyp.Statement.{statement}
@@ -14,16 +16,20 @@ enum-known-e c = search needs
 enum-known-to : tie.Need-enum-known-to
 enum-known-to c = search needs
 
+-- the body lies in the image
+inside : (c : tie.After-to)
+    → let a = c .before .before .before .before .args in
+    (a .from ≤ c .to .given .0 .0) × (c .to .given .0 .0 ≤ length (a .image .now))
+inside c = to-inside _ _ _ (rw (c .to .given .1) at (c .before .before .read-file-level-box .ensures))
+
 sub-parse-ftyp : tie.Need-sub-parse-ftyp
-sub-parse-ftyp c = to-inside _ _ _ (rw (c .before .to .given .1) at (c .before .before .before .read-file-level-box .ensures)) .0
+sub-parse-ftyp c = inside (c .before) .0
 
 part-parse-ftyp-start : tie.Need-part-parse-ftyp-start
-part-parse-ftyp-start c =
-    let i = to-inside _ _ _ (rw (c .before .to .given .1) at (c .before .before .before .read-file-level-box .ensures)) in
-    omega arith
+part-parse-ftyp-start c = omega (arith, inside (c .before) .0)
 
 part-parse-ftyp-end : tie.Need-part-parse-ftyp-end
-part-parse-ftyp-end c = to-inside _ _ _ (rw (c .before .to .given .1) at (c .before .before .before .read-file-level-box .ensures)) .1
+part-parse-ftyp-end c = inside (c .before) .1
 
 parse-ftyp-requires : tie.Need-parse-ftyp-requires
 parse-ftyp-requires c κs = search needs

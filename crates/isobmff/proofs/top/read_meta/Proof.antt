@@ -1,4 +1,4 @@
--- Step after step as `metaOver` has them.
+-- `metaOver` asks first whether an `ftyp` was met and only then for the body's end, and so does the code: each return is one of these steps.
 use borrow.Author.Tests.{not-true, not-false}
 use Rattle.isobmff.specs.Top.{metaOver}
 use borrow.Author.Needs.{needs}

@@ -1,4 +1,5 @@
--- Each arm by its law on the method.
+-- The definition asks which bytes the method names before it looks at any extent, and so does the `match`: only 0, and 1 with an `idat`, get as far
+-- as the join.
 use borrow.Author.Needs.{needs}
 use borrow.Author.Tests.{not-true, not-false}
 use Rattle.join.specs.Methods.{method-0, method-1, method-21, method-22, method-23}

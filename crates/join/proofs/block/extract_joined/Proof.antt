@@ -1,4 +1,5 @@
--- Each answer by its law in specs/Answers.
+-- The joined bytes are as many as the total that was checked. So 25, 26 and 28 can be asked in the definition's order before a byte is written, and
+-- what `gather` then copies is what follows the offset (specs/Answers).
 use borrow.Author.Needs.{needs}
 use native.Mathlib.Omega.{arith}
 use Rattle.join.specs.Answers.{block-refused, block-25, block-26, block-28, block-0}

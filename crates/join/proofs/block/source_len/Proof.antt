@@ -1,4 +1,4 @@
--- By the method, as `source` has it.
+-- `source` names the image for method 0 and `idat` for every other, as the arms do.
 use borrow.Author.Tests.{ne-eqb}
 use Rattle.join.proofs.block.source_len.Statement.{statement}
 use Rattle.join.proofs.block.source_len.Tie as tie

@@ -1,4 +1,4 @@
--- Four bytes that were 0 hold the first joined ones.
+-- `gather` lays the joined bytes over four zeros. Where there are fewer than four, the zeros that stay are what the definition has past the end.
 use borrow.Author.Needs.{needs}
 use mathlib.Core.List.{List}
 use mathlib.Core.Path.{ap, _∙_}

@@ -1,4 +1,4 @@
--- Each answer by its law in Laws/Places; 27 is not reached.
+-- Each test is the definition's, in its order. 27 is not reached: an end that passed 19 is below 2^64, and that is all that 27 asks on this target.
 use borrow.Author.Needs.{needs}
 use native.Mathlib.Omega.{arith}
 use Rattle.rules.specs.Laws.Places.{idat-19, idat-past, idat-open, idat-20, idat-part}

@@ -1,4 +1,4 @@
--- Each answer by its law in Laws/Places.
+-- Each test is the definition's, in its order; only that the length is held against what is left behind `from`, so that no sum can overflow.
 use borrow.Author.Needs.{needs}
 use native.Mathlib.Omega.{arith}
 use Rattle.rules.specs.Laws.Places.{image-27, image-open, image-2, image-part}

@@ -1,4 +1,5 @@
--- Where `to` is below `from`, nothing is taken.
+-- What is not refused ends inside the bytes (`EndsIn`), so a part that begins before its end lies inside; where `to` is below `from`, the definition
+-- takes nothing, and so does the empty part.
 use borrow.Author.Needs.{needs}
 use mathlib.Core.Path.{_≡_, ap}
 use Prim.Native.Nat.{_-_}

@@ -1,4 +1,5 @@
--- One test for 24, by its two laws in Laws/Totals.
+-- A sum is above 65,535 exactly where the part is longer than what is left up to that. That is what is tested, so the sum is made only where it
+-- is no more.
 use borrow.Author.Needs.{needs}
 use native.Mathlib.Omega.{arith}
 use Rattle.rules.specs.OverBytes.{added}

@@ -1,4 +1,4 @@
--- The name, and behind it the number.
+-- A name and a number written one behind the other are one text (`wrote-then`). The place behind both can be told, so that behind the name can.
 use borrow.Author.Needs.{needs}
 use Rattle.rules.specs.Doc.Text.{decimal}
 use Rattle.text.specs.Wrote.{wrote-then, room-first, room-then}

@@ -1,4 +1,4 @@
--- By the test that the definition has too.
+-- The definition makes the same test.
 use borrow.Author.Tests.{lt-ltb, le-ltb}
 use borrow.Author.Needs.{needs}
 use Rattle.rules.specs.Doc.Listing.{behind}

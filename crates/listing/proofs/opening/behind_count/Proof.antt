@@ -1,16 +1,14 @@
--- By the version: refused, 0, or another.
+-- The body's bytes, which the definition looks up, are the part that is lent; so its version is the one that was read, and the arms are those of
+-- `countSize`.
 use mathlib.Core.Path.{_≡_}
-use Prim.Native.Nat.{ℕ, _+_, _≤_}
-use mathlib.Core.List.{List}
-use lib.ListN.{length}
+use Prim.Native.Nat.{_+_}
 use borrow.Author.Tests.{ne-eqb}
 use borrow.Author.Needs.{needs}
-use Rattle.rules.specs.Doc.Outcomes.{Outcome, _>>=_}
-use Rattle.rules.specs.Doc.Bytes.{part, sizeOf, version}
-use Rattle.rules.specs.Doc.Headers.{Box}
+use Rattle.rules.specs.Doc.Outcomes.{_>>=_}
 use Rattle.rules.specs.Doc.Iinf.{countSize}
 use Rattle.rules.specs.Doc.Listing.{behind, behindCount}
 use Rattle.rules.specs.Laws.Numbers.{bytes-in}
+use Rattle.boxes.specs.Told.{fieldOf}
 use Rattle.listing.specs.Told.{boxIn}
 use Rattle.listing.proofs.opening.behind_count.Statement.{statement}
 use Rattle.listing.proofs.opening.behind_count.Tie as tie
@@ -36,36 +34,33 @@ enum-known-version c = search needs
 behind-requires : tie.Need-behind-requires
 behind-requires c κs = search needs
 
--- what stands behind the version that was read
-counted : (s : List ℕ) (b : Box) → b .body .to ≤ length s → {o : Outcome ℕ} → o ≡ version (part s (b .body .from) (sizeOf (b .body))) 0
-    → behindCount s b ≡ (o >>= λ v. behind (4 + countSize v) b)
-unfolding behindCount
-counted s b h e = rw (bytes-in s (b .body) h, ← e)
-
-returns : tie.Need-returns
-unfolding countSize
-returns c =
-    let read = c .before .before .before .before .before in
-    let start = read .before .before .before in
-    let v = counted (start .args .s .now) (boxIn (start .args .found)) (start .pre .1) (read .fullbox-header .ensures) in
-    rw (v, c .before .before .before .version .given .1, c .before .if1 .taken) (c .behind .ensures)
-
 behind-requires-2 : tie.Need-behind-requires-2
 behind-requires-2 c κs = search needs
 
+-- where the children start goes by what was read of the version
+counted : (c : tie.After-fullbox-header)
+    → let start = c .before .before .before in
+    let b = boxIn (start .args .found) in
+    behindCount (start .args .s .now) b ≡ (fieldOf (c .fullbox-header .result) >>= λ v. behind (4 + countSize v) b)
+unfolding behindCount
+counted c =
+    let start = c .before .before .before in
+    rw (bytes-in (start .args .s .now) (boxIn (start .args .found) .body) (start .pre .1), ← c .fullbox-header .ensures)
+
+returns : tie.Need-returns
+returns c = rw (counted (c .before .before .before), c .before .e .given .1)
+
 returns-2 : tie.Need-returns-2
+unfolding countSize
 returns-2 c =
-    let read = c .before .before .before in
-    let start = read .before .before .before in
-    rw (counted (start .args .s .now) (boxIn (start .args .found)) (start .pre .1) (read .fullbox-header .ensures), c .before .e .given .1)
+    let k = c .before .before .before in
+    rw (counted (k .before .before), k .version .given .1, c .before .match2 .keys1) (c .behind .ensures)
 
 returns-3 : tie.Need-returns-3
 unfolding countSize
 returns-3 c =
-    let read = c .before .before .before .before .before in
-    let start = read .before .before .before in
-    let v = counted (start .args .s .now) (boxIn (start .args .found)) (start .pre .1) (read .fullbox-header .ensures) in
-    rw (v, c .before .before .before .version .given .1, countSize, ne-eqb _ _ (c .before .if1 .left)) (c .behind2 .ensures)
+    let k = c .before .before .before in
+    rw (counted (k .before .before), k .version .given .1, countSize, ne-eqb _ _ (c .before .match2 .rest .1)) (c .behind2 .ensures)
 
 pub behind-count-spec : {M : Type 1} → statement M
 behind-count-spec =
@@ -78,7 +73,7 @@ behind-count-spec =
     enum-known-e
     enum-known-version
     behind-requires
-    returns
     behind-requires-2
+    returns
     returns-2
     returns-3)

@@ -1,4 +1,5 @@
--- By the arms of the `match`: one of the eight numbers, or none of them.
+-- The definition compares with eight types that are spelled in letters, and they come to the numbers that the arms name: a type is one of them, or
+-- none.
 use mathlib.Core.Logic.{⊎-elim, inl, inr}
 use borrow.Author.Tests.{ne-eqb}
 use Rattle.rules.specs.Doc.Lists.{any}

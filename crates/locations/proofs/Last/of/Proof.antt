@@ -1,4 +1,4 @@
--- By the test.
+-- `isWanted` compares the two ids as the test does.
 use borrow.Author.Tests.{eq-eqb, ne-eqb}
 use Rattle.rules.specs.Doc.Iloc.{isWanted}
 use Rattle.locations.proofs.Last.of.Statement.{statement}

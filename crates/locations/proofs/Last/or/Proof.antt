@@ -1,4 +1,4 @@
--- By the arms of the `match`.
+-- `orElse` has the same two cases: this one is there, or it is not.
 use borrow.Author.Needs.{needs}
 use Rattle.locations.proofs.Last.or.Statement.{statement}
 use Rattle.locations.proofs.Last.or.Tie as tie

@@ -1,4 +1,4 @@
--- By the arms of the `match`.
+-- The definition asks for a reference of 0 where the method is 0, and nothing else: the two arms.
 use borrow.Author.Tests.{ne-eqb}
 use Rattle.rules.specs.Doc.Iloc.{inFile}
 use Rattle.locations.proofs.entry.in_file.Statement.{statement}

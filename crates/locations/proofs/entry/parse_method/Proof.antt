@@ -1,4 +1,5 @@
--- No bytes make 0; two are read.
+-- In version 0 the definition has a field of no bytes, which is 0 wherever it fits, and it fits, since the place is inside; in the others one of two
+-- bytes, which is what `uint16` says.
 use mathlib.Core.Path.{refl}
 use native.Mathlib.Omega.{arith}
 use borrow.Author.Tests.{ne-eqb}

@@ -1,4 +1,5 @@
--- By the item, whether it has an extent, and the first one.
+-- All extents of an entry share their sizes, so the first one decides about the sizes for all, and then they need only fit together, as those of
+-- another item do. Of no extents nothing is asked.
 use native.Mathlib.Omega.{arith}
 use Rattle.locations.specs.Reads.{next-other, next-none, next-refused, next-whole}
 use borrow.Author.Needs.{needs}

@@ -1,4 +1,4 @@
--- The three numbers stand one after another, inside the extent.
+-- An extent is its three numbers one after another, so each of them lies where the whole extent does.
 use native.Mathlib.Omega.{arith}
 use Rattle.rules.specs.Doc.Iloc.{extentWidth}
 use Rattle.locations.proofs.extent.extent_here.Statement.{statement}

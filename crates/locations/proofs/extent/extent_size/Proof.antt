@@ -1,4 +1,4 @@
--- The sum of the three.
+-- The three sizes are half-bytes (`Small`), so their sum is below 48 and is the definition's.
 use mathlib.Core.Path.{refl}
 use native.Mathlib.Omega.{arith}
 use Rattle.rules.specs.Doc.Iloc.{extentWidth}

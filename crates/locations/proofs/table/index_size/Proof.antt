@@ -1,4 +1,4 @@
--- By the arms of the `match`.
+-- The definition asks whether the version is 0, as the arms do.
 use borrow.Author.Tests.{ne-eqb}
 use Rattle.rules.specs.Doc.Iloc.{sizesOf}
 use Rattle.locations.proofs.table.index_size.Statement.{statement}

@@ -1,4 +1,5 @@
--- The count's read, and the widths.
+-- The head ends with the count, as wide as an id: it is what `parse_id` says, and the sizes are the same quotients and remainders in the code and in
+-- the definition.
 use Rattle.rules.specs.Doc.Iloc.{sizesOf, baseSizeOf}
 use Rattle.locations.specs.Reads.{tableFrom}
 use borrow.Author.Needs.{needs}

@@ -1,4 +1,4 @@
--- The two reads in turn, and the version's own arm.
+-- The definition reads the version and the size bytes before it judges the version, and so does the code: what each read says is the next step.
 use Rattle.locations.specs.Reads.{version-refused, halves-refused, version-known, version-other}
 use borrow.Author.Needs.{needs}
 use Rattle.locations.proofs.table.parse_head.Statement.{statement}

@@ -1,4 +1,4 @@
--- Each width by the function that reads it.
+-- The definition has four bytes in version 2 and two in the others; such a field is what `uint32` or `uint16` says.
 use borrow.Author.Tests.{ne-eqb}
 use Rattle.rules.specs.Doc.Iloc.{idSize}
 use borrow.Author.Needs.{needs}
