@@ -1,3 +1,4 @@
+-- The walks by hand, and what they share.
 pub mod Rows
 pub mod Tied
 pub mod Calls

@@ -22,11 +22,13 @@ returns : tie.Need-returns
 unfolding behind
 returns c =
     let a = c .before .before .args in
-    simp (le-leb _ _ (c .before .if1 .taken), take-all (length (a .s .now) - a .n) (drop (a .n) (a .s .now)) (omega (arith, length-drop (a .n) (a .s .now))))
+    simp (le-leb (a .n) (length (a .s .now)) (omega arith), take-all (length (a .s .now) - a .n) (drop (a .n) (a .s .now)) (omega (arith, length-drop (a .n) (a .s .now))))
 
 returns-2 : tie.Need-returns-2
 unfolding behind
-returns-2 c = simp (lt-leb _ _ (c .if1 .left))
+returns-2 c =
+    let a = c .before .args in
+    simp (lt-leb (a .n) (length (a .s .now)) (omega arith))
 
 pub behind-spec : {M : Type 1} → statement M
 behind-spec = tie.close (tie.spec sub-result part-result-start part-result-end returns returns-2)
