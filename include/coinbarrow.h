@@ -35,7 +35,7 @@ extern "C" {
  *   6  meta before ftyp           15  external data reference    24  over 65,535 bytes
  *   7  no known brand             16  no iloc                    25  under 4 bytes
  *   8  meta version               17  no matching entry          26  header offset
- *   9  infe version               18  invalid offset             27  beyond the address space
+ *   9  infe version               18  invalid offset             27  beyond the address space (not here)
  */
 uint64_t coinbarrow_exif(const uint8_t *image, size_t image_len, uint8_t *out, size_t out_len);
 

@@ -1,5 +1,5 @@
 -- "File H and its neighbours": the cases marked P, one list with one claim, and the listing of H. The checker computes them.
--- Assumes nothing.
+-- No axiom and no premise is used.
 use Prim.Native.Nat.{ℕ, zero, suc, _+_, _/_, _%_, _^_}
 use mathlib.Core.Bool.{Bool, true, false, _&&_}
 use mathlib.Core.List.{List, [], _∷_, _++_}

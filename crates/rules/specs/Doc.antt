@@ -1,5 +1,5 @@
 -- Document 01, "HEIF boxes to Exif block", as functions that compute over an image that is a list of bytes. The modules stand in its order.
--- Assumes nothing.
+-- No axiom and no premise is used.
 
 -- What its sentences are made of.
 pub mod Outcomes

@@ -1,27 +1,39 @@
 -- Laws that the proofs cite, so that they need not open a definition.
+-- steps in a row
 pub mod Rows
+-- numbers and fields
 pub mod Numbers
 pub mod Fields
+-- a header, and the decision over the size case by case
 pub mod Headers
 pub mod Decision
+-- the boxes of a walk that ended well, in a row; walks without a count of steps, and box by box; the last one kept; where the boxes lie
 pub mod BoxRow
 pub mod Unroll
 pub mod Fold
 pub mod Last
 pub mod Lies
+-- an entry's extents, and the entry that is chosen
 pub mod Extents
 pub mod Entries
+-- where an extent lies, the total, a copy over several parts
 pub mod Places
 pub mod Totals
 pub mod Over
+-- the join over bytes and over positions, the answer by the parts that each function is lent, the longest block
 pub mod Gather
 pub mod Lent
 pub mod Limit
+-- agreement of two images
 pub mod Agreement
 pub mod SameBoxes
+-- the numbers that can be given
 pub mod Refusals
+-- numbers as text
 pub mod Text
+-- a box in a part of the bytes
 pub mod Moved
+-- the listing box by box, over boxes in a row, and how long it can be
 pub mod Listing
 pub mod ListingRow
 pub mod ListingLength

@@ -2,6 +2,10 @@
 --     { let r = f(self.inner, x); self.inner = g(self.inner, n); r }
 -- at any covered f and g, where x is 0 or n. The borrow of the splitter is opened; its slice, which is Copy, goes to f and then to g; the slice that
 -- g hands back is stored in the splitter's cell; and the borrow is closed at the new splitter.
+--
+-- The letters here and in the other walks: 𝓤, H and A are the logic's model, W its rules; R is the type of f's answer. κ and κ′ are the lifetimes of the
+-- loan and of the slice, q and q′ shares of their tokens; (b, o) is where the splitter lies, γ the loan's name, h the splitter's value. Each line takes
+-- the code one step on; a list in brackets says what is held there, in order, and `_k` is local k (`rt mir splitter` prints the code).
 use mathlib.Core.Path.{_≡_, refl}
 use Prim.Native.Nat.{ℕ, _<_, _^_}
 use mathlib.Core.List.{List, [], _∷_}

@@ -7,7 +7,7 @@ use crate::piece::box_at;
 use boxes::Child;
 use boxes::Header;
 
-pub fn behind<'a>(s: &'a [u8], n: usize) -> &'a [u8]
+pub(crate) fn behind<'a>(s: &'a [u8], n: usize) -> &'a [u8]
     ensures { λ r. ⌜ now r ≡ behind (now (s .entry)) n ⌝ }
 {
     if n <= s.len() {
@@ -16,7 +16,7 @@ pub fn behind<'a>(s: &'a [u8], n: usize) -> &'a [u8]
     s
 }
 
-pub fn behind_sized<'a>(s: &'a [u8], size: usize) -> &'a [u8]
+pub(crate) fn behind_sized<'a>(s: &'a [u8], size: usize) -> &'a [u8]
     ensures { λ r. ⌜ now r ≡ behindSized (now (s .entry)) size ⌝ }
 {
     match size {
@@ -26,7 +26,7 @@ pub fn behind_sized<'a>(s: &'a [u8], size: usize) -> &'a [u8]
     }
 }
 
-pub fn behind_box<'a>(s: &'a [u8], at: usize) -> &'a [u8]
+pub(crate) fn behind_box<'a>(s: &'a [u8], at: usize) -> &'a [u8]
     ensures { λ r. ⌜ now r ≡ behindBox (now (s .entry)) at ⌝ }
 {
     behind(s, past_box(s, at))

@@ -27,19 +27,19 @@ pub struct Array4 {
     pub bytes: [u8; 4],
 }
 
-pub fn length(s: &[u8]) -> usize
+pub(crate) fn length(s: &[u8]) -> usize
     ensures { λ r. ⌜ r ≡ length (now (s .entry)) ⌝ }
 {
     s.len()
 }
 
-pub fn empty(s: &[u8]) -> bool
+pub(crate) fn empty(s: &[u8]) -> bool
     ensures { λ r. ⌜ r ≡ eqb (length (now (s .entry))) 0 ⌝ }
 {
     s.len() == 0
 }
 
-pub fn sized_front(s: &[u8], size: usize) -> Sized
+pub(crate) fn sized_front(s: &[u8], size: usize) -> Sized
     ensures { λ r. ⌜ sizedOf r ≡ sizedFront (now (s .entry)) size ⌝ }
 {
     match size {
@@ -59,7 +59,7 @@ fn some(read: Number) -> Sized
     }
 }
 
-pub fn fullbox_at(s: &[u8], at: usize) -> FullBox
+pub(crate) fn fullbox_at(s: &[u8], at: usize) -> FullBox
     ensures { λ r. ⌜ fullBoxOf r ≡ fullBoxAt (now (s .entry)) at ⌝ }
 {
     if boxes::left(s, at) < 4 {
@@ -72,7 +72,7 @@ pub fn fullbox_at(s: &[u8], at: usize) -> FullBox
     }
 }
 
-pub fn array4_at(s: &[u8], at: usize) -> Array4
+pub(crate) fn array4_at(s: &[u8], at: usize) -> Array4
     ensures { λ r. ⌜ array4Of r ≡ array4At (now (s .entry)) at ⌝ }
 {
     if boxes::left(s, at) < 4 {

@@ -16,7 +16,7 @@ pub struct Piece<'a> {
     pub bytes: &'a [u8],
 }
 
-pub fn slice_front<'a>(s: &'a [u8], n: usize) -> Piece<'a>
+pub(crate) fn slice_front<'a>(s: &'a [u8], n: usize) -> Piece<'a>
     ensures { λ r. ⌜ pieceOf r ≡ sliceFront (now (s .entry)) n ⌝ }
 {
     let told = fitting(s, n);
@@ -27,7 +27,7 @@ pub fn slice_front<'a>(s: &'a [u8], n: usize) -> Piece<'a>
     }
 }
 
-pub fn child_at<'a>(s: &'a [u8], at: usize) -> Piece<'a>
+pub(crate) fn child_at<'a>(s: &'a [u8], at: usize) -> Piece<'a>
     ensures { λ r. ⌜ pieceOf r ≡ childBoxAt (now (s .entry)) at ⌝ }
 {
     let told = type_at(s, at);
@@ -57,7 +57,7 @@ fn taken<'a>(s: &'a [u8], n: usize) -> &'a [u8]
 }
 
 // The box at a position, by the rules inside a box.
-pub fn box_at(s: &[u8], at: usize) -> Child
+pub(crate) fn box_at(s: &[u8], at: usize) -> Child
     ensures { λ r. ⌜ child at r ≡ childAt (now (s .entry)) at ⌝ }
 {
     boxes::child_box(s, Header::read(s, at))

@@ -23,7 +23,8 @@ use crate::piece::slice_front;
 use boxes::Number;
 
 // The rest of a box's bytes. Each method that is lent it by `&mut` has the same lines: what stands at the front is read by a function that is lent
-// the slice, the slice becomes what another leaves of it, and the answer is handed out. So one walk proves them all (proofs/Moving.antt).
+// the slice, the slice becomes what another leaves of it, and the answer is handed out. So one walk proves them all (proofs/Moving.antt). A
+// method that is passed no number has it in a local, where the walk finds a passed one.
 pub struct BoxSplitter<'a> {
     pub inner: &'a [u8],
 }
