@@ -136,11 +136,11 @@ header-one s at {x} {y} e f = sym (header-back at x) ∙ (ap₂ asHeader (e 0 �
 
 -- ---- Boxes
 
-asChild : Outcome Box → Child
+pub asChild : Outcome Box → Child
 asChild (fine b) = c.Whole (b .kind) (b .body .from) (b .body .to)
 asChild (refused n) = c.Refused (asRefusal n)
 
-child-back : (at : ℕ) (x : Child) → asChild (child at x) ≡ x
+pub child-back : (at : ℕ) (x : Child) → asChild (child at x) ≡ x
 unfolding asChild
 child-back at (c.Whole kind from to) = refl
 child-back at (c.Refused e) = ap c.Refused (refusal-back e)

@@ -55,7 +55,7 @@ pub fn size048(s: &[u8], at: usize, size: usize, other: Refusal) -> Number
     }
 }
 
-// The version, the top byte of four. Nothing reads the flags, the other three.
+// The version, the top byte of four. Nothing in the core reads the flags, the other three.
 pub fn fullbox_header(s: &[u8], at: usize) -> Number
     ensures { λ r. ⌜ fieldOf r ≡ version (now (s .entry)) at ⌝ }
 {

@@ -27,7 +27,7 @@ fn show(name: &[u8], bytes: &[u8]) {
     io::write_all(STDOUT_FILENO, b"\n");
 }
 
-// From `from` on, where the image is that long.
+// The bytes from `from` to `to`, where the image has them.
 fn show_part(name: &[u8], image: &[u8], from: usize, to: usize) {
     if from <= to && to <= image.len() {
         show(name, &image[from..to]);

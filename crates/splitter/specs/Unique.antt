@@ -10,10 +10,8 @@ use denote.Ref.{RefT, now}
 use Rattle.rules.specs.Doc.Outcomes.{Outcome, fine, refused}
 use Rattle.rules.specs.Doc.Headers.{Box, childAt}
 use Rattle.boxes.specs.Told.{child, fieldOf}
-use Rattle.boxes.specs.Unique.{one, asRefusal, refusal-back, field-one}
+use Rattle.boxes.specs.Unique.{one, asRefusal, refusal-back, asChild, child-back, field-one}
 use Rattle.boxes.specs.declared.field.Number.{Number}
-use Rattle.boxes.specs.declared.level.Child.{Child}
-use Rattle.boxes.specs.declared.level.Child.the-variants as c
 use Rattle.splitter.specs.Told.{held, sizedOf, fullBoxOf, array4Of, pieceOf}
 use Rattle.splitter.specs.Children.{wholeChildren}
 use Rattle.splitter.specs.declared.count.Counted.{Counted}
@@ -113,16 +111,11 @@ tell : Counted → Outcome Box × ℕ
 tell r = (child 0 (r .first), r .count)
 
 asCounted : Outcome Box × ℕ → Counted
-asCounted (fine b, n) = record { first = c.Whole (b .kind) (b .body .from) (b .body .to); count = n }
-asCounted (refused k, n) = record { first = c.Refused (asRefusal k); count = n }
+asCounted o = record { first = asChild (o .0); count = o .1 }
 
 counted-back : (r : Counted) → asCounted (tell r) ≡ r
 unfolding tell asCounted
-counted-back r = go (r .first) (r .count)
-  where
-    go : (x : Child) (n : ℕ) → asCounted (child 0 x, n) ≡ record { first = x; count = n }
-    go (c.Whole kind from to) n = refl
-    go (c.Refused e) n = ap (λ e. record { first = c.Refused e; count = n }) (refusal-back e)
+counted-back r = ap (λ x. record { first = x; count = r .count }) (child-back 0 (r .first))
 
 -- of `children`
 pub children-one : (s : List ℕ) {x y : Counted} → (child 0 (x .first) ≡ childAt s 0) × (x .count ≡ wholeChildren s)

@@ -21,7 +21,8 @@ pub enum FullBox {
     Refused(Refusal),
 }
 
-// Four bytes, and that there were four; an enum can't hold an array. None were read where it is refused, and all are 0.
+// Four bytes, and that there were four. (No function over an enum that holds an array is proved by the kit's own means.) Where they are refused none was
+// read, and all are 0.
 pub struct Array4 {
     pub told: Number,
     pub bytes: [u8; 4],

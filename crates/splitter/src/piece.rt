@@ -9,8 +9,8 @@ use boxes::Header;
 use boxes::Number;
 use boxes::Refusal;
 
-// A part of the slice with a number: how many bytes it has, or the type of the box whose body it is. Where they are refused there are no bytes. An enum
-// can't hold a slice.
+// A part of the slice with a number: how many bytes it has, or the type of the box whose body it is. Where it is refused there are no bytes. An enum can't hold
+// a slice.
 pub struct Piece<'a> {
     pub told: Number,
     pub bytes: &'a [u8],

@@ -59,7 +59,7 @@ impl<'a> BoxSplitter<'a> {
         length(self.inner)
     }
 
-    // Returns type and body.
+    // The type as a number and the body as a slice, in a struct: an enum can't hold a slice.
     pub fn child_box(&mut self) -> Piece<'a>
         ensures { λ r. ⌜ (pieceOf r ≡ childBoxAt (held (self .entry)) 0) × (held (self .exit) ≡ behindBox (held (self .entry)) 0) ⌝ }
     {
@@ -69,7 +69,7 @@ impl<'a> BoxSplitter<'a> {
         r
     }
 
-    // Returns 0-, 4-, or 8-byte unsigned integer.
+    // Another size than 0, 4 and 8 reads nothing, and is no refusal.
     pub fn size048(&mut self, size: usize) -> Sized
         ensures { λ r. ⌜ (sizedOf r ≡ sizedFront (held (self .entry)) size) × (held (self .exit) ≡ behindSized (held (self .entry)) size) ⌝ }
     {
@@ -78,7 +78,6 @@ impl<'a> BoxSplitter<'a> {
         r
     }
 
-    // Returns version and flags.
     pub fn fullbox_header(&mut self) -> FullBox
         ensures { λ r. ⌜ (fullBoxOf r ≡ fullBoxAt (held (self .entry)) 0) × (held (self .exit) ≡ behind (held (self .entry)) 4) ⌝ }
     {

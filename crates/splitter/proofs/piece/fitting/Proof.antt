@@ -1,4 +1,4 @@
--- The test is the definition's.
+-- The bytes are there exactly where the slice has no fewer, which is the test.
 use borrow.Author.Tests.{le-leb, lt-leb}
 use Rattle.splitter.specs.Front.{fitting}
 use Rattle.splitter.proofs.piece.fitting.Statement.{statement}

@@ -1,4 +1,4 @@
--- The test is the definition's.
+-- The test is that of `fitting`, and a part from 0 on is what `take` says.
 use mathlib.Core.Path.{_≡_}
 use Prim.Native.Nat.{_-_}
 use native.Mathlib.Omega.{arith}
