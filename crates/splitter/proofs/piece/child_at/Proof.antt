@@ -1,4 +1,4 @@
--- The walk of `Made`, at `type_at` and `body_at`.
+-- The function has the lines that `Made` walks, with `type_at` for f and `body_at` for g.
 use Rattle.splitter.specs.Front.{typeAt, bodyAt}
 use Rattle.splitter.proofs.piece.type_at.Symbol as f
 use Rattle.splitter.proofs.piece.type_at.Met as f-thm

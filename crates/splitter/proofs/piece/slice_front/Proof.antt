@@ -1,4 +1,4 @@
--- The walk of `Made`, at `fitting` and `taken`.
+-- The function has the lines that `Made` walks, with `fitting` for f and `taken` for g.
 use Rattle.splitter.specs.Front.{fitting, taken}
 use Rattle.splitter.proofs.piece.fitting.Symbol as f
 use Rattle.splitter.proofs.piece.fitting.Met as f-thm

@@ -1,4 +1,4 @@
--- The walk of `Moving`, at `array4_at` and `behind`.
+-- The method has the lines that `Moving` walks, with `array4_at` for f and `behind` for g.
 use mathlib.Core.Path.{_≡_}
 use Rattle.splitter.specs.Told.{array4Of}
 use Rattle.splitter.specs.Front.{array4At}

@@ -1,4 +1,4 @@
--- The walk of `Moving`, at `child_at` and `behind_box`.
+-- The method has the lines that `Moving` walks, with `child_at` for f and `behind_box` for g.
 use mathlib.Core.Path.{_≡_}
 use Rattle.splitter.specs.Told.{pieceOf}
 use Rattle.splitter.specs.Front.{childBoxAt}

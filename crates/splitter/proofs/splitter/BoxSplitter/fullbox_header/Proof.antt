@@ -1,4 +1,4 @@
--- The walk of `Moving`, at `fullbox_at` and `behind`.
+-- The method has the lines that `Moving` walks, with `fullbox_at` for f and `behind` for g.
 use mathlib.Core.Path.{_≡_}
 use Rattle.splitter.specs.Told.{fullBoxOf}
 use Rattle.splitter.specs.Front.{fullBoxAt}

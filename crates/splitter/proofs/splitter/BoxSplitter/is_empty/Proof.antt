@@ -1,4 +1,4 @@
--- The walk of `Peeking`, at `empty`.
+-- The method has the line that `Peeking` walks, with `empty` for f.
 use mathlib.Core.Path.{_≡_}
 use lib.ListN.{length}
 use lib.Dec.{eqb}

@@ -1,4 +1,4 @@
--- The walk of `Peeking`, at `length`.
+-- The method has the line that `Peeking` walks, with `length` for f.
 use mathlib.Core.Path.{_≡_}
 use lib.ListN.{length}
 use mir.Syntax.{w64}

@@ -1,4 +1,4 @@
--- The walk of `Moving`, at `sized_front` and `behind_sized`.
+-- The method has the lines that `Moving` walks, with `sized_front` for f and `behind_sized` for g.
 use mathlib.Core.Path.{_≡_}
 use Rattle.splitter.specs.Told.{sizedOf}
 use Rattle.splitter.specs.Front.{sizedFront}

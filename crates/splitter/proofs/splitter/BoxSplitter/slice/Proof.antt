@@ -1,4 +1,4 @@
--- The walk of `Moving`, at `slice_front` and `behind`.
+-- The method has the lines that `Moving` walks, with `slice_front` for f and `behind` for g.
 use mathlib.Core.Path.{_≡_}
 use Rattle.splitter.specs.Told.{pieceOf}
 use Rattle.splitter.specs.Front.{sliceFront}

@@ -1,4 +1,4 @@
--- The walk of `Moving`, at `boxes::uint16` and `behind`.
+-- The method has the lines that `Moving` walks, with `boxes::uint16` for f and `behind` for g.
 use mathlib.Core.Path.{_≡_}
 use Rattle.rules.specs.Doc.Bytes.{field}
 use Rattle.boxes.specs.Told.{fieldOf}
