@@ -11,8 +11,8 @@ use lib.Seq.{take-add}
 use lib.Dec.{leb, ltb, eqb}
 use borrow.Author.Tests.{ltb-false, le-leb, ne-eqb}
 use Rattle.rules.specs.Doc.Outcomes.{if_then_else_, Outcome, fine, refused, _>>=_}
-use Rattle.rules.specs.Doc.Bytes.{numberAt, sizeOf, field}
-use Rattle.rules.specs.Doc.Headers.{Box, childAt}
+use Rattle.rules.specs.Doc.Bytes.{numberAt, part, sizeOf, field}
+use Rattle.rules.specs.Doc.Headers.{Box, boxOf, childAt}
 use Rattle.rules.specs.Laws.Rows.{apart, by-test}
 use Rattle.rules.specs.Laws.Numbers.{bytes-in, field-in}
 use Rattle.rules.specs.Laws.Headers.{child-inside}
@@ -112,6 +112,11 @@ module _ (s : List ℕ) {b : Box} (e : childAt s 0 ≡ fine b) where
       let i = child-inside s 0 (sym e) in
       let end : b .body .from + sizeOf (b .body) ≡ b .body .to = omega arith in
       rw (box-whole, e, bytes-in s (b .body) (i .inner), ← take-add (b .body .from) (sizeOf (b .body)) s, end) (take-append-drop (b .body .to) s)
+
+-- Of a box that is whole, the body lies inside, so it is there.
+pub body-whole : (s : List ℕ) (at : ℕ) {kind from to : ℕ} → fine (boxOf at kind from to) ≡ childAt s at → part s from (to - from) ≡ bodyAt s at
+unfolding bodyAt bodyOf
+body-whole s at {kind} {from} {to} b = rw (← b, bytes-in s (record { from = from; to = to }) (child-inside s at b .inner))
 
 -- no more of a header is read than there is
 read-inside : (left size : ℕ) → readOf left size ≤ left

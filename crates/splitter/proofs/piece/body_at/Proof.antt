@@ -4,7 +4,7 @@ use Rattle.rules.specs.Doc.Outcomes.{fine}
 use Rattle.rules.specs.Doc.Headers.{boxOf, childAt}
 use Rattle.rules.specs.Laws.Headers.{child-inside}
 use Rattle.splitter.specs.Front.{bodyAt, bodyOf}
-use Rattle.splitter.specs.Laws.{body-whole}
+use Rattle.splitter.specs.Left.{body-whole}
 use borrow.Author.Needs.{needs}
 use Rattle.splitter.proofs.piece.body_at.Statement.{statement}
 use Rattle.splitter.proofs.piece.body_at.Tie as tie
