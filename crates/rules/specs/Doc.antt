@@ -5,6 +5,7 @@
 pub mod Outcomes
 pub mod Lists
 pub mod Bytes
+pub mod Endian
 pub mod Walks
 -- "Box headers".
 pub mod Headers

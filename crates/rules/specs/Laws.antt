@@ -27,7 +27,8 @@ pub mod Limit
 -- agreement of two images
 pub mod Agreement
 pub mod SameBoxes
--- the numbers that can be given
+-- the numbers that can be given, of any table and of document 01's
+pub mod Numbered
 pub mod Refusals
 -- numbers as text
 pub mod Text

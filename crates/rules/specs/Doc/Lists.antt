@@ -1,4 +1,4 @@
--- "Some", "those that", "the last", "of each": the words of document 01 that speak of a list.
+-- "Some", "those that", "the first", "the last", "of each": the words of the rules that speak of a list.
 use mathlib.Core.Bool.{Bool, false, _||_}
 use mathlib.Core.Option.{Option, none, some}
 use mathlib.Core.List.{List, [], _∷_, _++_}
@@ -11,6 +11,10 @@ any p (x ∷ xs) = p x || any p xs
 unfoldable pub only : {A : Type 0} → (A → Bool) → List A → List A
 only p [] = []
 only p (x ∷ xs) = if p x then x ∷ only p xs else only p xs
+
+unfoldable pub firstOf : {A : Type 0} → List A → Option A
+firstOf [] = none
+firstOf (x ∷ xs) = some x
 
 unfoldable pub lastOf : {A : Type 0} → List A → Option A
 lastOf [] = none

@@ -22,6 +22,7 @@ use Rattle.rules.specs.Doc.Iloc.{Sizes, Table, idSize, tableOf, inFile, 
 use Rattle.rules.specs.Doc.Join.{reach, inImage, inIdat, lies, byMethod}
 use Rattle.rules.specs.Doc.Block.{bytesAt, blockAfter, block}
 use Rattle.rules.specs.Laws.Rows.{by-test}
+use Rattle.rules.specs.Laws.Numbered.{Within, went, with-number, row, require-numbered, given-numbered, either}
 use Rattle.rules.specs.Laws.Gather.{onFine}
 use Rattle.rules.specs.Laws.Lent.{block-lent}
 use Rattle.rules.specs.Doc.Answers.{answerWith}
@@ -30,26 +31,8 @@ use Rattle.rules.specs.OverBytes.{metaBlock, keptBlock, added, totalFrom
 abbrev pub InTable : ℕ → Type 0
 InTable n = T (leb 1 n && leb n 27)
 
-pub data Numbered {A : Type 0} : Outcome A → Type 0 where
-  went : {x : A} → Numbered (fine x)
-  with-number : {n : ℕ} → InTable n → Numbered (refused n)
-
--- ---- Steps in a row
-
-row : {A B : Type 0} (o : Outcome A) (f : A → Outcome B) → Numbered o → ((x : A) → Numbered (f x)) → Numbered (o >>= f)
-row (fine x) f p q = q x
-row (refused n) f (with-number p) q = with-number p
-
-require-numbered : (t : Bool) (n : ℕ) → InTable n → Numbered (require t n)
-require-numbered true n p = went
-require-numbered false n p = with-number p
-
-given-numbered : {A : Type 0} (o : Option A) (n : ℕ) → InTable n → Numbered (given o n)
-given-numbered none n p = with-number p
-given-numbered (some x) n p = went
-
-either : {A : Type 0} (t : Bool) (x y : Outcome A) → Numbered x → Numbered y → Numbered (if t then x else y)
-either t x y p q = by-test Numbered t (λ e. p) (λ e. q)
+abbrev pub Numbered : {A : Type 0} → Outcome A → Type 0
+Numbered = Within InTable
 
 -- ---- Fields and boxes
 

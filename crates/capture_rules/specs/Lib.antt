@@ -1,0 +1,6 @@
+-- Request six, "Capture time": its sentences as definitions that compute, their cases, and laws about them.
+pub mod Doc
+pub mod Unfold
+pub mod Cases
+pub mod Days
+pub mod Laws
