@@ -8,6 +8,7 @@ use lib.Dec.{eqb}
 use Rattle.rules.specs.Doc.Outcomes.{if_then_else_, Outcome, fine, refused}
 use Rattle.rules.specs.Doc.Bytes.{sizeOf}
 use Rattle.rules.specs.Doc.Headers.{Box, whole, announced, standing, fileBoxAt}
+pub use Rattle.rules.specs.Laws.Back.{one}
 use Rattle.boxes.specs.Told.{number, announces, child, fileBox, fieldOf}
 use Rattle.boxes.specs.declared.refusal.Refusal.{Refusal}
 use Rattle.boxes.specs.declared.refusal.Refusal.the-variants as r
@@ -19,10 +20,6 @@ use Rattle.boxes.specs.declared.level.FileBox.{FileBox}
 use Rattle.boxes.specs.declared.level.FileBox.the-variants as f
 use Rattle.boxes.specs.declared.field.Number.{Number}
 use Rattle.boxes.specs.declared.field.Number.the-variants as n
-
--- what can be told back has one answer for each thing told
-pub one : {A B : Type 0} (tell : A → B) (back : B → A) → ((x : A) → back (tell x) ≡ x) → {o : B} {x y : A} → tell x ≡ o → tell y ≡ o → x ≡ y
-one tell back same {o} {x} {y} e f = sym (same x) ∙ (ap back (e ∙ sym f) ∙ same y)
 
 -- ---- Refusals
 

@@ -1,2 +1,3 @@
--- That the contract of a load determines the number.
+-- What the byte order says, and that the contract of a load determines the number.
+pub mod Told
 pub mod Unique

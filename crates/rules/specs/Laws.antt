@@ -1,7 +1,8 @@
 -- Laws that the proofs cite, so that they need not open a definition.
 -- steps in a row
 pub mod Rows
--- numbers and fields
+-- numbers in either byte order, numbers and fields
+pub mod Endian
 pub mod Numbers
 pub mod Fields
 -- a header, and the decision over the size case by case
@@ -27,9 +28,10 @@ pub mod Limit
 -- agreement of two images
 pub mod Agreement
 pub mod SameBoxes
--- the numbers that can be given, of any table and of document 01's
+-- the numbers that can be given, of any table and of document 01's; the one answer for what is told
 pub mod Numbered
 pub mod Refusals
+pub mod Back
 -- numbers as text
 pub mod Text
 -- a box in a part of the bytes

@@ -12,7 +12,8 @@ use Rattle.rules.specs.Doc.Outcomes.{Outcome, fine, refused, _>>=_, given}
 use Rattle.rules.specs.Doc.Bytes.{numberAt, bytesIn}
 use Rattle.rules.specs.Doc.Headers.{Header, headerOf, headerAt, bodySize, Box, boxOf, boxWith, whole, announced, childAt}
 use Rattle.rules.specs.Laws.Rows.{apart, bind-fine}
-use Rattle.rules.specs.Laws.Numbers.{Bytes, number-below, part-length, bytes-in}
+use Rattle.rules.specs.Laws.Endian.{Bytes}
+use Rattle.rules.specs.Laws.Numbers.{number-below, part-length, bytes-in}
 use Rattle.rules.specs.Laws.Headers.{none-short, none-long, some-long, some-short, passed, child-inside}
 use Rattle.splitter.specs.Front.{typeOf, bodyOf, typeAt, bodyAt}
 use Rattle.splitter.specs.Behind.{behind, endOf, pastBox, behindBox}

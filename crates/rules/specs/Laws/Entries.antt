@@ -15,7 +15,8 @@ use Rattle.rules.specs.Doc.Walks.{onward, Walk, bare, walked, judged, af
 use Rattle.rules.specs.Doc.Iloc.{Sizes, Table, idSize, sizesOf, baseSizeOf, tableOf, methodSize, inFile, Entry, entryAt}
 use Rattle.rules.specs.Doc.Iloc.{extents, isWanted, entryEnd, extentsTest, entryNext, entryMet, entries, Chosen, chosenIn, chosen}
 use Rattle.rules.specs.Laws.Rows.{apart, bind-fine, bind-cong}
-use Rattle.rules.specs.Laws.Numbers.{Bytes, number-below}
+use Rattle.rules.specs.Laws.Endian.{Bytes}
+use Rattle.rules.specs.Laws.Numbers.{number-below}
 use Rattle.rules.specs.Laws.Fold.{folded}
 use Rattle.rules.specs.Laws.Last.{orElse, keep, kept-last, keep-or}
 use Rattle.rules.specs.Laws.Fields.{Stands, field-stands}

@@ -1,34 +1,19 @@
 -- How large a number of n bytes can be, when a field is read and when it is refused, and the bytes of a span that fits.
 use mathlib.Core.Path.{_≡_, sym}
 use mathlib.Core.List.{List}
-use Prim.Native.Nat.{ℕ, zero, suc, _+_, _*_, _^_, _≤_, _<_}
-use native.Mathlib.Nat.{pow-suc, pow-le-pow-right, lt-of-lt-of-le, le-of-suc-le-suc}
+use Prim.Native.Nat.{ℕ, _+_, _^_, _≤_, _<_}
 use native.Mathlib.Omega.{arith}
 use lib.ListN.{length, take, length-take, length-drop}
 use lib.Seq.{length-take-le}
-use lib.Dec.{lit<}
-use mir.Syntax.{w8}
-use mir.Val.{Fits}
 use borrow.Author.Tests.{le-leb, lt-leb, ne-eqb}
 use Rattle.rules.specs.Doc.Outcomes.{fine, refused}
-use Rattle.rules.specs.Doc.Bytes.{byteAt, numberAt, part, Span, sizeOf, bytesIn, field, sized}
-
--- every element is a byte, in the words in which a proof of code knows it of a slice
-abbrev pub Bytes : List ℕ → Type 0
-Bytes s = (k : ℕ) → Fits w8 (byteAt s k)
+use Rattle.rules.specs.Doc.Endian.{big}
+use Rattle.rules.specs.Doc.Bytes.{numberAt, part, Span, sizeOf, bytesIn, field, sized}
+use Rattle.rules.specs.Laws.Endian.{Bytes, number-big, number-in-below}
 
 -- n bytes make a number below 256 to the n
 pub number-below : (s : List ℕ) (at n : ℕ) → Bytes s → numberAt s at n < 256 ^ n
-unfolding numberAt
-number-below s at zero b = lit< tt
-number-below s at (suc n) b =
-    let e : 256 ^ suc n ≡ 256 ^ n * 256 = pow-suc 256 n in
-    let h : numberAt s at n < 256 ^ n = number-below s at n b in
-    omega (arith, b (at + n))
-
--- fewer than eight bytes leave room for one more in 64 bits
-pub number-room : (s : List ℕ) (at n : ℕ) → n < 8 → Bytes s → numberAt s at n < 2 ^ 56
-number-room s at n h b = lt-of-lt-of-le (number-below s at n b) (pow-le-pow-right (lit< tt) (le-of-suc-le-suc h))
+number-below s at n b = rw (← number-big s at n) (number-in-below big s at n b)
 
 -- a field that fits, and one that doesn't
 pub field-in : (s : List ℕ) (at n : ℕ) {v : ℕ} → at + n ≤ length s → v ≡ numberAt s at n → fine v ≡ field s at n

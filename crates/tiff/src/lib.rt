@@ -1,0 +1,13 @@
+// The front of an Exif block: its header and its directories.
+mod directory;
+mod fault;
+mod header;
+
+pub use directory::Directory;
+pub use directory::Found;
+pub use directory::find;
+pub use directory::inside;
+pub use directory::read_directory;
+pub use fault::Fault;
+pub use header::Header;
+pub use header::read_header;
