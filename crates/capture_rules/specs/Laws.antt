@@ -1,7 +1,16 @@
--- Laws of request six's definitions.
--- the shape of a date, and the numbers in it; that it is a day of the calendar; that its text is what stood there
+-- Laws of request six's definitions: what the proofs of the code cite, and what is claimed of a date and of a fraction. No axiom and no premise is used.
+
+-- bytes of the shape of a date: their length, and digits where the numbers stand
 pub mod Shape
+-- the date handed out is a date
 pub mod Calendar
+-- what is printed of a date is what stood there
 pub mod TimeText
+-- the greatest common divisor is one
+pub mod Euclid
+-- four bytes as a signed number
+pub mod Signs
+-- a fraction in lowest terms: its value is kept, and no number above 1 divides both its parts
+pub mod Lowest
 -- the numbers that can be given
 pub mod Faults

@@ -3,4 +3,5 @@ pub mod Doc
 pub mod Unfold
 pub mod Cases
 pub mod Days
+pub mod Examples
 pub mod Laws

@@ -1,0 +1,2 @@
+-- Small numbers in 64 bits.
+pub mod Wide

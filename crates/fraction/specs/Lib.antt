@@ -1,0 +1,3 @@
+-- What the code's fraction says, and that each contract determines the answer.
+pub mod Told
+pub mod Unique
