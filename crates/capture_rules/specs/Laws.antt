@@ -12,5 +12,7 @@ pub mod Euclid
 pub mod Signs
 -- a fraction in lowest terms: its value is kept, and no number above 1 divides both its parts
 pub mod Lowest
+-- how long the line is
+pub mod LineText
 -- the numbers that can be given
 pub mod Faults

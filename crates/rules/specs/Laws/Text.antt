@@ -1,6 +1,7 @@
 -- Numbers as text, digit by digit, and how many digits they have.
 use mathlib.Core.Path.{_≡_, refl, _∙_}
-use Prim.Native.Nat.{ℕ, zero, suc, _+_, _-_, _*_, _/_, _%_, _≤_, _<_}
+use Prim.Native.Nat.{ℕ, zero, suc, _+_, _-_, _*_, _/_, _%_, _^_, _≤_, _<_}
+use native.Mathlib.Nat.{pow-suc}
 use native.Mathlib.Omega.{arith}
 use mathlib.Core.Bool.{Bool, true, false}
 use mathlib.Core.List.{[], _∷_, _++_}
@@ -54,22 +55,26 @@ one-digit n h = rw (decimal-one n h)
 pub decimal-longer : (n : ℕ) → 10 ≤ n → length (decimal n) ≡ length (decimal (n / 10)) + 1
 decimal-longer n h = rw (decimal-more n h, length-append (decimal (n / 10)) (digit (n % 10) ∷ []))
 
-digits-more : (b k n : ℕ) → n < 10 * b → (n / 10 < b → length (decimal (n / 10)) ≤ suc k) → length (decimal n) ≤ suc (suc k)
+digits-more : (b k n : ℕ) → n < b * 10 → (n / 10 < b → length (decimal (n / 10)) ≤ suc k) → length (decimal n) ≤ suc (suc k)
 digits-more b k n h ih = go (ltb n 10) refl
   where
     go : (t : Bool) → ltb n 10 ≡ t → length (decimal n) ≤ suc (suc k)
     go true e = omega (arith, one-digit n (ltb-true n 10 e))
     go false e = omega (arith, decimal-longer n (ltb-false n 10 e), ih (omega arith))
 
+-- a number below 10 ^ k has at most k digits
+pub digits-most : (k n : ℕ) → n < 10 ^ suc k → length (decimal n) ≤ suc k
+digits-most zero n h = omega (arith, one-digit n h)
+digits-most (suc k) n h = digits-more (10 ^ suc k) k n (rw (pow-suc 10 (suc k)) at h) (digits-most k (n / 10))
+
 pub two-digits : (n : ℕ) → n < 100 → length (decimal n) ≤ 2
-two-digits n h = digits-more 10 0 n h λ h. omega (arith, one-digit (n / 10) h)
+two-digits = digits-most 1
 
 pub five-digits : (n : ℕ) → n < 100000 → length (decimal n) ≤ 5
-five-digits n h =
-    digits-more 10000 3 n h λ h.
-    digits-more 1000 2 (n / 10) h λ h.
-    digits-more 100 1 (n / 10 / 10) h λ h.
-    two-digits (n / 10 / 10 / 10) h
+five-digits = digits-most 4
+
+pub ten-digits : (n : ℕ) → n < 10000000000 → length (decimal n) ≤ 10
+ten-digits = digits-most 9
 
 pub hex-longer : (k n : ℕ) → (k ≡ 0 → ⊥) → length (hex k n) ≡ length (hex (k - 1) (n / 16)) + 1
 hex-longer k n h = rw (hex-more k n h, length-append (hex (k - 1) (n / 16)) (digit (n % 16) ∷ []))
