@@ -1,0 +1,47 @@
+-- From extraction to the photo, by what extraction promises alone: `r` is what it answered, `after` the output after it.
+use mathlib.Core.Path.{_≡_, refl, sym, ap, _∙_}
+use mathlib.Core.List.{List, _++_}
+use Prim.Native.Nat.{ℕ, _≤_}
+use native.Mathlib.Omega.{arith}
+use lib.ListN.{length, take, length-append, length-map}
+use lib.Dec.{eqb}
+use borrow.Author.Tests.{ne-eqb}
+use Rattle.rules.specs.Doc.Outcomes.{Outcome, fine, refused, _>>=_}
+use Rattle.rules.specs.Doc.Block.{bytesAt}
+use Rattle.rules.specs.Doc.Answers.{Answer, answer}
+use Rattle.boxes.specs.Told.{number}
+use Rattle.boxes.specs.Unique.{not-done}
+use Rattle.boxes.specs.declared.refusal.Refusal.{Refusal}
+use Rattle.join.specs.Told.{told}
+use Rattle.join.specs.Unique.{output-told}
+use Rattle.join.specs.declared.block.Extracted.{Extracted}
+use Rattle.join.specs.declared.block.Extracted.the-variants.{Done, NoRoom, Refused}
+use Rattle.rules.specs.Demands.One.{length-said}
+use Rattle.isobmff.specs.Demands.{success-only-block}
+use Rattle.capture_rules.specs.Doc.Capture.{Capture, capture, afterwards, photo}
+
+module _ (img out after : List ℕ) (r : Extracted) (meets : told r after ≡ answer img out) where
+  pub output-kept : after ≡ answer img out .output
+  output-kept = sym (output-told r after) ∙ ap (λ (a : Answer). a .output) meets
+
+  pub photo-refused : {e : Refusal} → r ≡ Refused e → refused (number e) ≡ photo img out
+  unfolding photo afterwards
+  photo-refused {e} f = rw (← meets, f, ne-eqb (number e) 0 (not-done e))
+
+  pub photo-no-room : {n : ℕ} → r ≡ NoRoom n → refused 28 ≡ photo img out
+  unfolding photo afterwards
+  photo-no-room f = rw (← meets, f)
+
+  module _ {n : ℕ} (f : r ≡ Done n) where
+    -- the block lies in the output
+    pub block-inside : n ≤ length after
+    unfolding bytesAt
+    block-inside =
+        let done : told (Done n) after ≡ answer img out = rw f at meets in
+        let w = success-only-block img out (Done n) after done refl in
+        let size : n ≡ length (w .positions) = ap (λ (a : Answer). a .length) done ∙ length-said img out (w .is-block) in
+        rw (w .front) (simp (length-append, length-map) (omega (arith, size)))
+
+    pub photo-read : {o : Outcome Capture} → o ≡ capture (take n after) → o ≡ photo img out
+    unfolding photo afterwards
+    photo-read g = rw (← meets, f) g
