@@ -1,12 +1,14 @@
 -- No two answers say the same, so each contract of this crate determines its function's answer.
 use mathlib.Core.Path.{_≡_, refl, sym, ap, ap₂, _∙_}
-use Prim.Native.Nat.{ℕ, _+_, _-_}
+use Prim.Native.Nat.{ℕ, zero, suc, _+_, _-_, _≤_}
 use native.Mathlib.Omega.{arith}
+use mathlib.Core.Bool.{Bool, true, false, _&&_}
 use mathlib.Core.List.{List, [], _∷_}
 use lib.ListN.{length, getD}
-use lib.Dec.{eqb}
+use lib.Dec.{T, leb, eqb, leb→le}
 use Rattle.rules.specs.Doc.Outcomes.{if_then_else_, Outcome, fine, refused}
 use Rattle.rules.specs.Doc.Bytes.{sizeOf}
+use Rattle.rules.specs.Cases.{every}
 use Rattle.rules.specs.Doc.Headers.{Box, whole, announced, standing, fileBoxAt}
 pub use Rattle.rules.specs.Laws.Back.{one}
 use Rattle.boxes.specs.Told.{number, announces, child, fileBox, fieldOf}
@@ -98,6 +100,28 @@ unfolding asRefusal refusals
 not-done x e =
     let f : number r.NotFound ≡ number x = ap number (ap asRefusal (sym e) ∙ refusal-back x) in
     omega arith
+
+-- what holds of each thing in a list holds of the one at a position
+each-at : {A : Type 0} (p : A → Bool) (xs : List A) (i : ℕ) (d : A) → T (every p xs) → T (p d) → T (p (getD xs i d))
+unfolding every
+each-at p [] i d e h = h
+each-at p (x ∷ xs) zero d e h = first (p x) e
+  where
+    first : (t : Bool) → T (t && every p xs) → T t
+    first true e = tt
+    first false e = e
+each-at p (x ∷ xs) (suc i) d e h = each-at p xs i d (rest (p x) e) h
+  where
+    rest : (t : Bool) → T (t && every p xs) → T (every p xs)
+    rest true e = e
+    rest false e = absurd e
+
+-- No refusal is numbered above 29.
+pub number-limit : (x : Refusal) → number x ≤ 29
+unfolding asRefusal refusals every
+number-limit x =
+    let t : T (leb (number (asRefusal (number x))) 29) = each-at (λ (y : Refusal). leb (number y) 29) refusals (number x - 1) r.NotFound tt tt in
+    leb→le (number x) 29 (rw (refusal-back x) at t)
 
 pub refusal-one : {x y : Refusal} → number x ≡ number y → x ≡ y
 refusal-one {x} {y} e = one number asRefusal refusal-back e refl

@@ -16,7 +16,7 @@ use Rattle.capture_rules.specs.Doc.Header.{header}
 use Rattle.capture_rules.specs.Doc.Directory.{ASCII, LONG, SRATIONAL, exifPointer, dateTimeOriginal, exposureBiasValue, Entry, Directory, directory, find, holds, valueOf}
 use Rattle.capture_rules.specs.Doc.Time.{Time, time}
 use Rattle.capture_rules.specs.Doc.Fraction.{Fraction, signed32, lowest}
-use Rattle.capture_rules.specs.Doc.Capture.{Capture, exifAt, dateIn, fractionIn, biasOf, ifThere, biasIn, captureIn, captureFrom, capture}
+use Rattle.capture_rules.specs.Doc.Capture.{Capture, exifAt, dateIn, fractionIn, biasOf, ifThere, biasIn, inOrder, captureIn, captureFrom, capture}
 
 -- `&b[at..at + n]` has n bytes
 as-many : (at n : ℕ) → at + n - at ≡ n
@@ -101,20 +101,12 @@ module _ (e : Endian) (v : List ℕ) {den : ℕ} (g : den ≡ numberIn e v 4 4) 
 
 -- ---- Steps in a row: the first that is refused ends it
 
+pub by-both : (e : Endian) (b : List ℕ) (d : Directory) {t : Outcome Time} {x : Outcome (Option Fraction)} → t ≡ dateIn e b d → x ≡ biasIn e b d
+    → {o : Outcome Capture} → o ≡ inOrder t x → o ≡ captureIn e b d
+unfolding captureIn
+by-both e b d f g h = rw (← f, ← g) h
+
 module _ (e : Endian) (b : List ℕ) (d : Directory) where
-  pub no-date : {n : ℕ} → refused n ≡ dateIn e b d → refused n ≡ captureIn e b d
-  unfolding captureIn
-  no-date f = rw (← f)
-
-  module _ {t : Time} (f : fine t ≡ dateIn e b d) where
-    pub no-bias : {n : ℕ} → refused n ≡ biasIn e b d → refused n ≡ captureIn e b d
-    unfolding captureIn
-    no-bias g = rw (← f, ← g)
-
-    pub both-read : {x : Option Fraction} → fine x ≡ biasIn e b d → fine (record { time = t; bias = x }) ≡ captureIn e b d
-    unfolding captureIn
-    both-read g = rw (← f, ← g)
-
   pub no-pointer : {n : ℕ} → refused n ≡ exifAt e b d → refused n ≡ captureFrom e b d
   unfolding captureFrom
   no-pointer f = rw (← f)

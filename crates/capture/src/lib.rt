@@ -8,9 +8,9 @@ ghost use mathlib.Core.Path.{_≡_};
 ghost use Prim.Native.Nat.{_+_, _*_, _≤_};
 ghost use lib.ListN.{length};
 ghost use Rattle.rules.specs.Doc.Answers.{answer};
-ghost use Rattle.capture_rules.specs.Doc.Capture.{captureIn, captureFrom, capture as Capture·capture, photo};
+ghost use Rattle.capture_rules.specs.Doc.Capture.{inOrder, captureIn, captureFrom, capture as Capture·capture, photo};
 ghost use Rattle.endian.specs.Told.{endianOf};
-ghost use Rattle.capture.specs.Told.{capturedOf, photoOf};
+ghost use Rattle.capture.specs.Told.{datedOf, biasedOf, capturedOf, photoOf};
 pub use bias::Bias;
 use bias::Biased;
 use bias::bias_in;
@@ -44,21 +44,30 @@ pub enum Photo {
     Unread(Fault),
 }
 
-// From the Exif directory, whose entries lie inside. The date comes before the bias.
+// The date comes before the bias: where both are refused, the answer is the date's.
+fn in_order(dated: Dated, biased: Biased) -> Captured
+    ensures { λ r. ⌜ capturedOf r ≡ inOrder (datedOf dated) (biasedOf biased) ⌝ }
+{
+    match dated {
+        Dated::Refused(e) => Captured::Refused(e),
+        Dated::Taken(first) => match biased {
+            Biased::Refused(e) => Captured::Refused(e),
+            Biased::Read(second) => Captured::Read(Capture {
+                time: first,
+                bias: second,
+            }),
+        },
+    }
+}
+
+// From the Exif directory, whose entries lie inside.
 fn capture_in(order: Endian, block: &[u8], from: usize, count: usize) -> Captured
     requires { ⌜ from + 12 * count ≤ length (now block) ⌝ }
     ensures { λ r. ⌜ capturedOf r ≡ captureIn (endianOf order) (now (block .entry)) (record { from = from; count = count }) ⌝ }
 {
-    match date_in(order, block, from, count) {
-        Dated::Refused(e) => Captured::Refused(e),
-        Dated::Taken(time) => match bias_in(order, block, from, count) {
-            Biased::Refused(e) => Captured::Refused(e),
-            Biased::Read(bias) => Captured::Read(Capture {
-                time: time,
-                bias: bias,
-            }),
-        },
-    }
+    let dated = date_in(order, block, from, count);
+    let biased = bias_in(order, block, from, count);
+    in_order(dated, biased)
 }
 
 // From the first directory, which points to the Exif directory.

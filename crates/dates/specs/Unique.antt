@@ -1,8 +1,9 @@
 -- No two answers say the same, so the contract of `parse` determines its answer.
-use mathlib.Core.Path.{_≡_, refl, sym, ap, _∙_}
+use mathlib.Core.Path.{_≡_, refl}
 use mathlib.Core.List.{List}
 use Prim.Native.Nat.{ℕ}
 use Rattle.rules.specs.Doc.Outcomes.{Outcome, fine, refused}
+use Rattle.rules.specs.Laws.Back.{one}
 use Rattle.capture_rules.specs.Doc.Time as doc
 use Rattle.dates.specs.Told.{timeOf, parsedOf}
 use Rattle.dates.specs.declared.Time.{Time}
@@ -24,4 +25,4 @@ parsed-back (Taken t) = refl
 parsed-back NotATime = refl
 
 pub parsed-one : (value : List ℕ) {x y : Parsed} → parsedOf x ≡ doc.time value → parsedOf y ≡ doc.time value → x ≡ y
-parsed-one value {x} {y} e f = sym (parsed-back x) ∙ (ap asParsed (e ∙ sym f) ∙ parsed-back y)
+parsed-one value e f = one parsedOf asParsed parsed-back e f

@@ -54,12 +54,16 @@ ifThere f (some x) = f x >>= λ y. fine (some y)
 unfoldable pub biasIn : Endian → List ℕ → Directory → Outcome (Option Fraction)
 biasIn e b d = ifThere (biasOf e b) (find e b d exposureBiasValue)
 
+-- The date comes before the bias.
+unfoldable pub inOrder : Outcome Time → Outcome (Option Fraction) → Outcome Capture
+inOrder date bias = do
+  t ← date
+  x ← bias
+  fine (record { time = t; bias = x })
+
 -- what the Exif directory says
 unfoldable pub captureIn : Endian → List ℕ → Directory → Outcome Capture
-captureIn e b d = do
-  t ← dateIn e b d
-  x ← biasIn e b d
-  fine (record { time = t; bias = x })
+captureIn e b d = inOrder (dateIn e b d) (biasIn e b d)
 
 -- what the first directory leads to
 unfoldable pub captureFrom : Endian → List ℕ → Directory → Outcome Capture

@@ -12,7 +12,7 @@ use Rattle.rules.specs.Laws.Numbered.{Within, went, with-number, row, require-n
 use Rattle.capture_rules.specs.Doc.Header.{orderOf, header}
 use Rattle.capture_rules.specs.Doc.Directory.{ASCII, LONG, SRATIONAL, exifPointer, dateTimeOriginal, exposureBiasValue, Entry, Directory, directory, find, holds, valueOf}
 use Rattle.capture_rules.specs.Doc.Time.{pattern, alike, timeIn, isDate, isClock, time}
-use Rattle.capture_rules.specs.Doc.Capture.{exifAt, dateIn, fractionIn, biasOf, ifThere, biasIn, captureIn, captureFrom, capture}
+use Rattle.capture_rules.specs.Doc.Capture.{exifAt, dateIn, fractionIn, biasOf, ifThere, biasIn, inOrder, captureIn, captureFrom, capture}
 
 abbrev pub InBlock : ℕ → Type 0
 InBlock n = T (leb 34 n && leb n 39)
@@ -70,7 +70,7 @@ unfolding biasIn
 bias-numbered e b d = there-numbered (biasOf e b) (entry-numbered e b) (find e b d exposureBiasValue)
 
 from-numbered : (e : Endian) (b : List ℕ) (d : Directory) → Numbered (captureFrom e b d)
-unfolding captureFrom captureIn
+unfolding captureFrom captureIn inOrder
 from-numbered e b d =
     row _ _ (pointer-numbered e b d)
     (λ at. row _ _ (directory-numbered e b at) (λ x. row _ _ (date-numbered e b x) (λ t. row _ _ (bias-numbered e b x) (λ f. went))))

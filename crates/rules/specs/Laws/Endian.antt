@@ -1,5 +1,6 @@
--- Numbers in either byte order: one law over the digits says how large they can be. The first byte highest, they are the numbers of Bytes.
-use mathlib.Core.Path.{_≡_, refl}
+-- Numbers in either byte order: one law over the digits says how large they can be. In a part they are those of the whole. The first byte highest,
+-- they are the numbers of Bytes.
+use mathlib.Core.Path.{_≡_, refl, ap, _∙_}
 use mathlib.Core.List.{List}
 use Prim.Native.Nat.{ℕ, zero, suc, _+_, _-_, _*_, _^_, _≤_, _<_}
 use native.Mathlib.Nat.{pow-suc, pow-le-pow-right, lt-of-lt-of-le, le-of-suc-le-suc}
@@ -7,8 +8,9 @@ use native.Mathlib.Omega.{arith}
 use lib.Dec.{lit<}
 use mir.Syntax.{w8}
 use mir.Val.{Fits}
-use Rattle.rules.specs.Doc.Bytes.{byteAt, numberAt}
+use Rattle.rules.specs.Doc.Bytes.{byteAt, numberAt, part}
 use Rattle.rules.specs.Doc.Endian.{Endian, big, little, placeIn, numberOf, numberIn}
+use Rattle.rules.specs.Laws.Agreement.{part-at}
 
 -- every element is a byte, in the words in which a proof of code knows it of a slice
 abbrev pub Bytes : List ℕ → Type 0
@@ -41,6 +43,21 @@ module _ (e : Endian) (s : List ℕ) (at n : ℕ) (b : Bytes s) where
   pub digits-room : (k : ℕ) → k < 8 → numberOf (digitsIn e s at n) k < 2 ^ 56
   digits-room k h =
       lt-of-lt-of-le (digits-below (digitsIn e s at n) k (λ i. b (placeIn e at n i))) (pow-le-pow-right (lit< tt) (le-of-suc-le-suc h))
+
+-- a number in a part of some bytes stands in them, where the part begins and that much further on
+pub number-in-part : (e : Endian) (s : List ℕ) (from size at n : ℕ) → at + n ≤ size → numberIn e (part s from size) at n ≡ numberIn e s (from + at) n
+unfolding numberIn placeIn
+number-in-part e s from size at n h =
+    digits-same (digitsIn e (part s from size) at n) (digitsIn e s (from + at) n) n
+    (λ i k. part-at s from size (placeIn e at n i) (place-below e i k) ∙ ap (byteAt s) (moved e i))
+  where
+    place-below : (e : Endian) (i : ℕ) → i < n → placeIn e at n i < size
+    place-below big i k = omega arith
+    place-below little i k = omega arith
+
+    moved : (e : Endian) (i : ℕ) → from + placeIn e at n i ≡ placeIn e (from + at) n i
+    moved big i = omega arith
+    moved little i = omega arith
 
 -- the numbers of Bytes are the big-endian ones
 pub number-big : (s : List ℕ) (at n : ℕ) → numberIn big s at n ≡ numberAt s at n

@@ -1,0 +1,168 @@
+-- Of an image: what is said of it is what its block says, so all that is claimed of a block holds. Which numbers refuse it, and how long the line
+-- is. Pictures have no say.
+use mathlib.Core.Path.{_≡_, refl, sym, ap, _∙_}
+use mathlib.Core.Bool.{Bool, true, false, _&&_}
+use mathlib.Core.Logic.{_⊎_, inl, inr, ⊎-elim}
+use mathlib.Core.List.{List, [], _∷_, _++_}
+use Prim.Native.Nat.{ℕ, zero, suc, _≤_, _<_}
+use native.Mathlib.Nat.{le-trans, pos-of-ne-zero}
+use native.Mathlib.Omega.{arith}
+use lib.ListN.{length, take, drop, length-map}
+use lib.Seq.{take-append-seam}
+use lib.Dec.{T, leb, eqb, leb→le, lit≤, lit<}
+use borrow.Author.Tests.{le-leb, ne-eqb, eqb-true, eqb-false}
+use Rattle.rules.specs.Doc.Outcomes.{if_then_else_, Outcome, fine, refused, _>>=_, require, once}
+use Rattle.rules.specs.Doc.Bytes.{byteAt}
+use Rattle.rules.specs.Doc.Block.{bytesAt, block}
+use Rattle.rules.specs.Doc.Answers.{handed, answerWith, answer}
+use Rattle.rules.specs.Doc.Consulted.{consulted, Agree}
+use Rattle.rules.specs.Laws.Rows.{apart, bind-fine, bind-known}
+use Rattle.rules.specs.Laws.Endian.{Bytes}
+use Rattle.rules.specs.Laws.Numbered.{with-number}
+use Rattle.rules.specs.Laws.Refusals.{Numbered as ExtractionNumbered, block-numbered, not-given}
+use Rattle.rules.specs.Laws.Limit.{block-limit}
+use Rattle.rules.specs.Demands.One.{number-limit}
+use Rattle.rules.specs.Demands.Three.{quiet}
+use Rattle.capture_rules.specs.Doc.Capture.{Capture, capture, afterwards, photo}
+use Rattle.capture_rules.specs.Doc.Line.{lineText}
+use Rattle.capture_rules.specs.Laws.Calendar.{Real}
+use Rattle.capture_rules.specs.Laws.LineText.{Small, line-length, refusal-length}
+use Rattle.capture_rules.specs.Laws.Faults.{Numbered, capture-numbered}
+use Rattle.capture_rules.specs.Demands.Block.{date-real, bias-small}
+
+-- ---- What the block says
+
+-- the block of an image, read from the front of an output buffer that it was written to
+block-back : (img ps rest : List ℕ) → take (length ps) (bytesAt img ps ++ rest) ≡ bytesAt img ps
+unfolding bytesAt
+block-back img ps rest = rw (← length-map ps (byteAt img)) (take-append-seam (bytesAt img ps) rest)
+
+module _ (img out : List ℕ) where
+  -- what a block says if there is room for it
+  abbrev pub saidBy : List ℕ → Outcome Capture
+  saidBy ps = require (leb (length ps) (length out)) 28 >>= λ u. capture (bytesAt img ps)
+
+  handed-on : (o : Outcome (List ℕ)) → ExtractionNumbered o
+      → afterwards (answerWith out (bytesAt img (once (handed (length out)) o)) o) ≡ (o >>= saidBy)
+  unfolding afterwards answerWith once handed
+  handed-on (refused n) p = rw (ne-eqb n 0 (λ e. not-given n 0 p e (λ t. t)))
+  handed-on (fine ps) p = go (leb (length ps) (length out))
+    where
+      written : Bool → List ℕ
+      written t = bytesAt img (if t then ps else [])
+
+      go : (t : Bool)
+          → afterwards (record { number = if t then 0 else 28; length = length ps; output = written t ++ drop (length (written t)) out })
+          ≡ (require t 28 >>= λ u. capture (bytesAt img ps))
+      go true = ap capture (block-back img ps (drop (length (bytesAt img ps)) out))
+      go false = refl
+
+  -- What is said of an image is what its block says, if it has one and there is room for it.
+  pub photo-is : photo img out ≡ (block img >>= saidBy)
+  unfolding photo answer
+  photo-is = handed-on (block img) (block-numbered img)
+
+  -- With room for the block, it is what the block says.
+  pub with-room : {ps : List ℕ} → block img ≡ fine ps → length ps ≤ length out → photo img out ≡ capture (bytesAt img ps)
+  with-room {ps} e h = rw (photo-is, e, le-leb (length ps) (length out) h)
+
+  -- Where something is handed out, there is a block that says it: so what is claimed of a block holds of it.
+  pub photo-block : {c : Capture} → photo img out ≡ fine c → (ps : List ℕ) × (block img ≡ fine ps) × (capture (bytesAt img ps) ≡ fine c)
+  photo-block e =
+      let (ps, p, q) = bind-fine (block img) saidBy (sym e ∙ photo-is) in
+      let (u, r, s) = bind-fine (require (leb (length ps) (length out)) 28) (λ u. capture (bytesAt img ps)) q in
+      (ps, sym p, sym s)
+
+  -- The date is a date of the calendar, and the time of day is one.
+  pub photo-real : {c : Capture} → photo img out ≡ fine c → Real (c .time)
+  photo-real e = let (ps, p, q) = photo-block e in date-real (bytesAt img ps) q
+
+  -- Neither part of a bias is larger than 2^31.
+  pub photo-small : {c : Capture} → photo img out ≡ fine c → Small (c .bias)
+  photo-small e = let (ps, p, q) = photo-block e in bias-small (bytesAt img ps) q
+
+-- The block is made of bytes if the image is.
+pub block-bytes : (img ps : List ℕ) → Bytes img → Bytes (bytesAt img ps)
+unfolding bytesAt
+block-bytes img [] b k = record { fits = lit< tt }
+block-bytes img (i ∷ ps) b zero = b i
+block-bytes img (i ∷ ps) b (suc k) = block-bytes img ps b k
+
+-- ---- The output buffer
+
+-- A buffer of 65,531 bytes or more has room for every block: how long it is and what stands in it have no say.
+pub any-large-buffer : (img out more : List ℕ) → 65531 ≤ length out → 65531 ≤ length more → photo img out ≡ photo img more
+any-large-buffer img out more h k = photo-is img out ∙ (bind-known (block img) same ∙ sym (photo-is img more))
+  where
+    same : (ps : List ℕ) → block img ≡ fine ps → saidBy img out ps ≡ saidBy img more ps
+    same ps e =
+        let l = block-limit img e in
+        rw (le-leb (length ps) (length out) (le-trans l h), le-leb (length ps) (length more) (le-trans l k))
+
+-- ---- Refusals
+
+-- the number of extraction, from 1 to 28
+pub record ByExtraction (img out : List ℕ) (n : ℕ) : Type 0 where
+  pub number : answer img out .number ≡ n
+  pub least : 1 ≤ n
+  pub most : n ≤ 28
+
+-- extraction answered 0, and the number is from 34 to 39
+pub record ByBlock (img out : List ℕ) (n : ℕ) : Type 0 where
+  pub number : answer img out .number ≡ 0
+  pub least : 34 ≤ n
+  pub most : n ≤ 39
+
+same-number : {m n : ℕ} → _≡_ {A = Outcome Capture} (refused m) (refused n) → m ≡ n
+same-number e = cc
+
+block-refusal : (b : List ℕ) {n : ℕ} → capture b ≡ refused n → (34 ≤ n) × (n ≤ 39)
+block-refusal b e = go (capture b) e (capture-numbered b)
+  where
+    both : (p q : Bool) → T (p && q) → T p × T q
+    both true q t = (tt, t)
+
+    go : (o : Outcome Capture) {n : ℕ} → o ≡ refused n → Numbered o → (34 ≤ n) × (n ≤ 39)
+    go (fine c) e p = absurd (apart e)
+    go (refused m) e (with-number t) =
+        let l = both (leb 34 m) (leb m 39) t in
+        rw (← same-number e) (leb→le 34 m (l .0), leb→le m 39 (l .1))
+
+module _ (img out : List ℕ) where
+  -- A number of extraction other than 0 refuses the image.
+  pub extraction-refuses : (answer img out .number ≡ 0 → ⊥) → photo img out ≡ refused (answer img out .number)
+  unfolding photo afterwards
+  extraction-refuses h = rw (ne-eqb (answer img out .number) 0 h)
+
+  -- By the number it can be told whether extraction refused the image or its block was refused.
+  pub refused-by : {n : ℕ} → photo img out ≡ refused n → ByExtraction img out n ⊎ ByBlock img out n
+  unfolding photo afterwards
+  refused-by {n} e = go (eqb (answer img out .number) 0) refl
+    where
+      go : (t : Bool) → eqb (answer img out .number) 0 ≡ t → ByExtraction img out n ⊎ ByBlock img out n
+      go true f =
+          let l = block-refusal (take (answer img out .length) (answer img out .output)) (rw f at e) in
+          inr (record { number = eqb-true (answer img out .number) 0 f; least = l .0; most = l .1 })
+      go false f =
+          let z : answer img out .number ≡ 0 → ⊥ = eqb-false (answer img out .number) 0 f in
+          let same : answer img out .number ≡ n = same-number (sym (extraction-refuses z) ∙ e) in
+          inl (record { number = same; least = rw (← same) (pos-of-ne-zero z); most = rw (← same) (number-limit img out) })
+
+-- ---- The line
+
+-- No line is longer than 62 bytes.
+pub line-limit : (img out : List ℕ) → length (lineText (photo img out)) ≤ 62
+line-limit img out = go (photo img out) refl
+  where
+    go : (o : Outcome Capture) → photo img out ≡ o → length (lineText o) ≤ 62
+    go (fine c) e = line-length c (photo-small img out e)
+    go (refused n) e =
+        let h : n < 100 = ⊎-elim (λ x. omega (arith, x .most)) (λ x. omega (arith, x .most)) (refused-by img out e) in
+        le-trans (refusal-length n h) (lit≤ tt)
+
+-- ---- Bytes consulted
+
+-- Demand 3: pictures have no say. Of two images of one length that agree on the bytes consulted for the first, the same is said.
+pub photo-quiet : (a b out : List ℕ) → length a ≡ length b → Agree a b (consulted a (length out)) → photo a out ≡ photo b out
+unfolding photo
+photo-quiet a b out e g = ap afterwards (quiet a b out e g)
