@@ -1,4 +1,3 @@
--- What a fraction of the code is, which dates can be printed, and that each contract determines the outcome.
-pub mod Told
+-- Which dates and lines can be printed, and that each contract determines the outcome.
 pub mod Printable
 pub mod Unique

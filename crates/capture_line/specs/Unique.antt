@@ -1,25 +1,27 @@
--- A text written at a place has one outcome: so each contract of this crate determines answer and buffer.
+-- No two outcomes, answer and both buffers together, meet a contract of this crate.
 use mathlib.Core.Path.{_≡_, sym, _∙_}
-use Prim.Native.Nat.{ℕ}
-use mathlib.Core.Option.{some}
-use mathlib.Core.List.{List}
-use lib.IntN.{ℤ, natAbs}
-use Rattle.capture_rules.specs.Doc.Line.{timeText, biasText}
-use Rattle.capture_rules.specs.Doc.Time.{Time}
-use Rattle.text.specs.Wrote.{Wrote}
-use Rattle.text.specs.Unique.{wrote-one}
-use Rattle.capture_line.specs.Told.{fraction}
+use Prim.Native.Nat.{ℕ, _≤_}
+use mathlib.Core.List.{List, _++_}
+use lib.ListN.{length, drop}
+use Rattle.rules.specs.Doc.Answers.{answer}
+use Rattle.rules.specs.Doc.Listing.{printed}
+use Rattle.capture_rules.specs.Doc.Capture.{photo}
+use Rattle.capture_rules.specs.Doc.Line.{lineText}
 
--- of `magnitude`
-pub magnitude-one : (x : ℤ) {r r′ : ℕ} → r ≡ natAbs x → r′ ≡ natAbs x → r ≡ r′
-magnitude-one x p q = p ∙ sym q
+module _ (image block out : List ℕ) where
+  -- the contract of `photo_line`, and that of `photo_line_whole`
+  abbrev pub Line : ℕ → List ℕ → List ℕ → Type 0
+  Line r after read = (r ≡ length (lineText (photo image block))) × (after ≡ printed (lineText (photo image block)) out) × (read ≡ answer image block .output)
 
-module _ {at : ℕ} {before : List ℕ} {r r′ : ℕ} {after after′ : List ℕ} where
-  -- of `put_time`
-  pub time-one : (t : Time) → Wrote (timeText t) at before r after → Wrote (timeText t) at before r′ after′ → (r ≡ r′) × (after ≡ after′)
-  time-one t = wrote-one
+  abbrev pub Whole : ℕ → List ℕ → List ℕ → Type 0
+  Whole r after read =
+      ((r ≡ length (lineText (photo image block))) × (r ≤ 62)) × (after ≡ lineText (photo image block) ++ drop r out) × (read ≡ answer image block .output)
 
-  -- of `put_fraction`
-  pub fraction-one : (num : ℤ) (den : ℕ) → Wrote (biasText (some (fraction num den))) at before r after
-      → Wrote (biasText (some (fraction num den))) at before r′ after′ → (r ≡ r′) × (after ≡ after′)
-  fraction-one num den = wrote-one
+  module _ {r r′ : ℕ} {after after′ read read′ : List ℕ} where
+    pub line-one : Line r after read → Line r′ after′ read′ → (r ≡ r′) × (after ≡ after′) × (read ≡ read′)
+    line-one p q = (p .0 ∙ sym (q .0), p .1 ∙ sym (q .1), p .2 ∙ sym (q .2))
+
+    pub whole-one : Whole r after read → Whole r′ after′ read′ → (r ≡ r′) × (after ≡ after′) × (read ≡ read′)
+    whole-one p q =
+        let same : r ≡ r′ = p .0 .0 ∙ sym (q .0 .0) in
+        (same, p .1 ∙ rw same (sym (q .1)), p .2 ∙ sym (q .2))

@@ -1,23 +1,17 @@
 -- The lines and the last line are the listing of an image.
-use mathlib.Core.Path.{_≡_, _∙_}
+use mathlib.Core.Path.{_≡_}
 use Prim.Native.Nat.{ℕ, _+_, _^_, _≤_, _<_}
 use native.Mathlib.Omega.{arith}
 use mathlib.Core.List.{List, _++_}
 use lib.ListN.{length}
 use borrow.Author.Tests.{lt-ltb, le-ltb}
 use Rattle.rules.specs.Doc.Listing.{deepest, listRun, lastText, textOf, longest, listing, printed}
-use Rattle.rules.specs.Laws.Over.{over-front}
 use Rattle.rules.specs.Laws.Listing.{linesText, ending, text-lines}
 use Rattle.rules.specs.Laws.ListingLength.{listing-length}
-use Rattle.text.specs.Wrote.{Wrote, wrote-then, room-first, room-then}
+use Rattle.text.specs.Wrote.{Wrote, wrote-then, room-first, room-then, from-front}
 use Rattle.listing.specs.declared.Listed.{Listed}
 use Rattle.listing.specs.Told.{told, textEnd}
 use Rattle.listing.specs.Lines.{Lines}
-
--- what was written from the front on, in the words of the contract
-pub from-front : {text before after : List ℕ} {end : ℕ} → Wrote text 0 before end after → (end ≡ length text) × (after ≡ printed text before)
-unfolding printed
-from-front {text} {before} w = (omega (arith, w .place), w .buffer ∙ over-front text before)
 
 pub too-long : (image : List ℕ) → longest < length image → listing image ≡ lastText longest 29
 unfolding listing

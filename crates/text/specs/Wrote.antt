@@ -6,7 +6,8 @@ use native.Mathlib.Numerals.{add-one}
 use mathlib.Core.List.{List, [], _∷_, _++_}
 use lib.ListN.{length, take, getD, length-append}
 use lib.Seq.{take-suc, sets}
-use Rattle.rules.specs.Laws.Over.{over-append}
+use Rattle.rules.specs.Doc.Listing.{printed}
+use Rattle.rules.specs.Laws.Over.{over-append, over-front}
 
 -- `before` and `after` are the buffer, `end` is the place behind the bytes. Where there is no room, `sets` leaves them out; the place counts on.
 pub record Wrote (bytes : List ℕ) (at : ℕ) (before : List ℕ) (end : ℕ) (after : List ℕ) : Type 0 where
@@ -39,3 +40,8 @@ room-then {at} {m} {a} p b h = let e = length-append a b in omega (arith, p .pla
 pub wrote-more : (s : List ℕ) {i at m r : ℕ} {before between after : List ℕ} → i < length s
     → Wrote (take i s) at before m between → Wrote (getD s i 0 ∷ []) m between r after → Wrote (take (i + 1) s) at before r after
 wrote-more s {i} h p q = rw (add-one i, take-suc s i 0 h) (wrote-then p q)
+
+-- what was written from the front on, in the words of a contract
+pub from-front : {text before after : List ℕ} {end : ℕ} → Wrote text 0 before end after → (end ≡ length text) × (after ≡ printed text before)
+unfolding printed
+from-front {text} {before} w = (omega (arith, w .place), w .buffer ∙ over-front text before)

@@ -3,7 +3,8 @@
 use native.Mathlib.Omega.{arith}
 use borrow.Author.Needs.{needs}
 use Rattle.rules.specs.Doc.Listing.{textOf}
-use Rattle.listing.specs.Whole.{from-front, too-long, room-listing, room-lines, room-last, whole}
+use Rattle.text.specs.Wrote.{from-front}
+use Rattle.listing.specs.Whole.{too-long, room-listing, room-lines, room-last, whole}
 use Rattle.listing.proofs.list_boxes.Statement.{statement}
 use Rattle.listing.proofs.list_boxes.Tie as tie
 
