@@ -1,12 +1,11 @@
 -- From extraction to the photo, by what extraction promises alone: `r` is what it answered, `after` the output after it.
 use mathlib.Core.Path.{_≡_, refl, sym, ap, _∙_}
-use mathlib.Core.List.{List, _++_}
+use mathlib.Core.List.{List}
 use Prim.Native.Nat.{ℕ, _≤_}
 use native.Mathlib.Omega.{arith}
 use lib.ListN.{length, take, length-append, length-map}
-use lib.Dec.{eqb}
 use borrow.Author.Tests.{ne-eqb}
-use Rattle.rules.specs.Doc.Outcomes.{Outcome, fine, refused, _>>=_}
+use Rattle.rules.specs.Doc.Outcomes.{Outcome, refused}
 use Rattle.rules.specs.Doc.Block.{bytesAt}
 use Rattle.rules.specs.Doc.Answers.{Answer, answer}
 use Rattle.boxes.specs.Told.{number}

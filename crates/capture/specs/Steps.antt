@@ -1,5 +1,5 @@
 -- The steps that look at an entry, case by case: `x` is the entry that was found, `q` says whether it holds what is wanted, `i` whether its value lies inside.
-use mathlib.Core.Path.{_≡_, refl, sym, _∙_}
+use mathlib.Core.Path.{_≡_, _∙_}
 use mathlib.Core.Bool.{Bool, true, false, not}
 use mathlib.Core.Option.{Option, none, some}
 use mathlib.Core.List.{List}
@@ -9,7 +9,7 @@ use lib.ListN.{length}
 use lib.Dec.{leb}
 use lib.IntN.{ℤ}
 use borrow.Author.Tests.{not-true, not-false, ne-eqb}
-use Rattle.rules.specs.Doc.Outcomes.{Outcome, fine, refused, _>>=_}
+use Rattle.rules.specs.Doc.Outcomes.{Outcome, fine, refused}
 use Rattle.rules.specs.Doc.Bytes.{part}
 use Rattle.rules.specs.Doc.Endian.{Endian, numberIn}
 use Rattle.capture_rules.specs.Doc.Header.{header}

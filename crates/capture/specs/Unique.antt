@@ -1,5 +1,5 @@
 -- No two answers say the same, so the contracts of `from_block` and `from_image` determine their answers; that of `from_image` the output too.
-use mathlib.Core.Path.{_≡_, refl, sym, ap, ap₂, _∙_}
+use mathlib.Core.Path.{_≡_, refl, sym, ap, _∙_}
 use mathlib.Core.Option.{Option, none, some}
 use mathlib.Core.List.{List}
 use Prim.Native.Nat.{ℕ}

@@ -38,15 +38,55 @@ pub record Case : Type 0 where
 unfoldable pub says : List ℕ → List ℕ → Case
 says block text = record { block = block; text = text }
 
+-- where the fields that the cases change stand
+abbrev fortyTwo : ℕ
+fortyTwo = 2
+
+abbrev pointer : ℕ
+pointer = 10
+
+abbrev dateEntry : ℕ
+dateEntry = 28
+
+abbrev biasEntry : ℕ
+biasEntry = 40
+
+abbrev month : ℕ
+month = 61
+
+abbrev denominator : ℕ
+denominator = 80
+
 unfoldable pub cases : List Case
 cases =
     says blockMM (ascii "answer=0 date=2023:06:14 09:26:53 bias=-1/2")
     ∷ says blockII (ascii "answer=0 date=2023:06:14 09:26:53 bias=-1/2")
+    -- seven bytes, and 43: 34
+    ∷ says (take 7 blockMM) (ascii "answer=34")
+    ∷ says (changed blockMM fortyTwo 2 43) (ascii "answer=34")
+    -- no count, the Exif directory at the end, a value that ends one byte late: 35
+    ∷ says (take 8 blockMM) (ascii "answer=35")
+    ∷ says (changed blockMM (pointer + 8) 4 84) (ascii "answer=35")
+    ∷ says (take 83 blockMM) (ascii "answer=35")
+    -- another tag, a SHORT, two values: 36
+    ∷ says (changed blockMM pointer 2 0x8768) (ascii "answer=36")
+    ∷ says (changed blockMM (pointer + 2) 2 3) (ascii "answer=36")
+    ∷ says (changed blockMM (pointer + 4) 4 2) (ascii "answer=36")
+    -- another tag, 19 values, month 13: 37
+    ∷ says (changed blockMM dateEntry 2 0x9004) (ascii "answer=37")
+    ∷ says (changed blockMM (dateEntry + 4) 4 19) (ascii "answer=37")
+    ∷ says (changed blockMM month 2 0x3133) (ascii "answer=37")
+    -- RATIONAL: 38; a denominator of zero: 39; another tag: no bias
+    ∷ says (changed blockMM (biasEntry + 2) 2 5) (ascii "answer=38")
+    ∷ says (changed blockMM denominator 4 0) (ascii "answer=39")
+    ∷ says (changed blockMM biasEntry 2 0x9201) (ascii "answer=0 date=2023:06:14 09:26:53 bias=none")
+    -- both are wrong: the date comes first
+    ∷ says (changed (changed blockMM denominator 4 0) month 2 0x3133) (ascii "answer=37")
     ∷ []
 
 unfoldable pub right : Case → Bool
 right c = same (lineText (capture (c .block))) (c .text ++ newline)
 
 pub all-cases : T (every right cases)
-unfolding request every right same cases says blockMM blockII line
+unfolding request every right same cases says changed blockMM blockII line
 all-cases = tt

@@ -8,7 +8,7 @@ use native.Mathlib.Omega.{arith}
 use lib.ListN.{length}
 use lib.Dec.{leb}
 use borrow.Author.Tests.{leb-true, not-true, not-false, eq-eqb, ne-eqb}
-use Rattle.rules.specs.Doc.Outcomes.{fine, refused, _>>=_, require}
+use Rattle.rules.specs.Doc.Outcomes.{fine, refused, require}
 use Rattle.rules.specs.Doc.Lists.{only, firstOf}
 use Rattle.rules.specs.Doc.Endian.{Endian, numberIn}
 use Rattle.rules.specs.Laws.Rows.{bind-fine, required}

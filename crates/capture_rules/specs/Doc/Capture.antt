@@ -1,11 +1,11 @@
 -- The steps in reading order, date before bias.
-use Prim.Native.Nat.{ℕ, zero, suc}
+use Prim.Native.Nat.{ℕ, zero}
 use mathlib.Core.Bool.{not}
 use mathlib.Core.Option.{Option, none, some}
 use mathlib.Core.List.{List}
 use lib.ListN.{take}
 use lib.Dec.{eqb}
-use Rattle.rules.specs.Doc.Outcomes.{Outcome, fine, refused, _>>=_, require, given}
+use Rattle.rules.specs.Doc.Outcomes.{Outcome, fine, _>>=_, require, given}
 use Rattle.rules.specs.Doc.Endian.{Endian, numberIn}
 use Rattle.rules.specs.Doc.Answers.{Answer, answer}
 use Rattle.capture_rules.specs.Doc.Header.{header}

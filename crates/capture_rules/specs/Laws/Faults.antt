@@ -5,10 +5,10 @@ use mathlib.Core.Option.{Option, none, some}
 use mathlib.Core.List.{List}
 use lib.ListN.{length}
 use lib.Dec.{T, leb, eqb}
-use Rattle.rules.specs.Doc.Outcomes.{Outcome, fine, refused, _>>=_, require, given}
+use Rattle.rules.specs.Doc.Outcomes.{Outcome, refused}
 use Rattle.rules.specs.Doc.Bytes.{numberAt}
 use Rattle.rules.specs.Doc.Endian.{Endian, numberIn}
-use Rattle.rules.specs.Laws.Numbered.{Within, went, with-number, row, require-numbered, given-numbered}
+use Rattle.rules.specs.Laws.Numbered.{Within, went, row, require-numbered, given-numbered}
 use Rattle.capture_rules.specs.Doc.Header.{orderOf, header}
 use Rattle.capture_rules.specs.Doc.Directory.{ASCII, LONG, SRATIONAL, exifPointer, dateTimeOriginal, exposureBiasValue, Entry, Directory, directory, find, holds, valueOf}
 use Rattle.capture_rules.specs.Doc.Time.{pattern, alike, timeIn, isDate, isClock, time}
