@@ -10,7 +10,7 @@ use Rattle.rules.specs.Doc.Outcomes.{if_then_else_, Outcome, fine, refused}
 use Rattle.rules.specs.Doc.Bytes.{sizeOf}
 use Rattle.rules.specs.Cases.{every}
 use Rattle.rules.specs.Doc.Headers.{Box, whole, announced, standing, fileBoxAt}
-pub use Rattle.rules.specs.Laws.Back.{one}
+use Rattle.rules.specs.Laws.Back.{one}
 use Rattle.boxes.specs.Told.{number, announces, child, fileBox, fieldOf}
 use Rattle.boxes.specs.declared.refusal.Refusal.{Refusal}
 use Rattle.boxes.specs.declared.refusal.Refusal.the-variants as r

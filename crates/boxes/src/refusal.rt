@@ -1,4 +1,4 @@
-// The refusals of every layer, and their numbers.
+// The refusals of extraction and of the listing, and their numbers. Those of a block are in crates/tiff.
 ghost use mathlib.Core.Path.{_≡_};
 ghost use Rattle.boxes.specs.Told.{number};
 

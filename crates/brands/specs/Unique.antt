@@ -6,7 +6,8 @@ use Prim.Native.Nat.{ℕ}
 use Rattle.rules.specs.Doc.Outcomes.{Outcome, fine, refused}
 use Rattle.rules.specs.Doc.Ftyp.{brandTest}
 use Rattle.rules.specs.Doc.Heif.{isHeif}
-use Rattle.boxes.specs.Unique.{one, asRefusal, refusal-back}
+use Rattle.rules.specs.Laws.Back.{one}
+use Rattle.boxes.specs.Unique.{asRefusal, refusal-back}
 use Rattle.brands.specs.Told.{ftypOf}
 use Rattle.brands.specs.declared.Ftyp.{Ftyp}
 use Rattle.brands.specs.declared.Ftyp.the-variants.{Known, Refused}

@@ -17,18 +17,18 @@ use Rattle.join.specs.declared.block.Extracted.{Extracted}
 use Rattle.join.specs.declared.block.Extracted.the-variants.{Done, NoRoom, Refused}
 use Rattle.rules.specs.Demands.One.{length-said}
 use Rattle.isobmff.specs.Demands.{success-only-block}
-use Rattle.capture_rules.specs.Doc.Capture.{Capture, capture, afterwards, photo}
+use Rattle.capture_rules.specs.Doc.Capture.{Capture, capture, ofAnswer, photo}
 
 module _ (img out after : List ℕ) (r : Extracted) (meets : told r after ≡ answer img out) where
   pub output-kept : after ≡ answer img out .output
   output-kept = sym (output-told r after) ∙ ap (λ (a : Answer). a .output) meets
 
   pub photo-refused : {e : Refusal} → r ≡ Refused e → refused (number e) ≡ photo img out
-  unfolding photo afterwards
+  unfolding photo ofAnswer
   photo-refused {e} f = rw (← meets, f, ne-eqb (number e) 0 (not-done e))
 
   pub photo-no-room : {n : ℕ} → r ≡ NoRoom n → refused 28 ≡ photo img out
-  unfolding photo afterwards
+  unfolding photo ofAnswer
   photo-no-room f = rw (← meets, f)
 
   module _ {n : ℕ} (f : r ≡ Done n) where
@@ -42,5 +42,5 @@ module _ (img out after : List ℕ) (r : Extracted) (meets : told r after ≡ an
         rw (w .front) (simp (length-append, length-map) (omega (arith, size)))
 
     pub photo-read : {o : Outcome Capture} → o ≡ capture (take n after) → o ≡ photo img out
-    unfolding photo afterwards
+    unfolding photo ofAnswer
     photo-read g = rw (← meets, f) g

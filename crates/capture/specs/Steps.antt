@@ -16,7 +16,7 @@ use Rattle.capture_rules.specs.Doc.Header.{header}
 use Rattle.capture_rules.specs.Doc.Directory.{ASCII, LONG, SRATIONAL, exifPointer, dateTimeOriginal, exposureBiasValue, Entry, Directory, directory, find, holds, valueOf}
 use Rattle.capture_rules.specs.Doc.Time.{Time, time}
 use Rattle.capture_rules.specs.Doc.Fraction.{Fraction, signed32, lowest}
-use Rattle.capture_rules.specs.Doc.Capture.{Capture, exifAt, dateIn, fractionIn, biasOf, ifThere, biasIn, inOrder, captureIn, captureFrom, capture}
+use Rattle.capture_rules.specs.Doc.Capture.{Capture, exifAt, dateIn, fractionIn, entryBias, ifThere, biasIn, inOrder, captureIn, captureFrom, capture}
 
 -- `&b[at..at + n]` has n bytes
 as-many : (at n : ℕ) → at + n - at ≡ n
@@ -34,7 +34,7 @@ module _ (e : Endian) (b : List ℕ) (d : Directory) where
     unfolding exifAt
     pointer-other n = rw (← f, ← h, not-true q n)
 
-    pub pointer-to : not q ≡ false → fine (x .value) ≡ exifAt e b d
+    pub pointer-to : not q ≡ false → fine (x .place) ≡ exifAt e b d
     unfolding exifAt
     pointer-to n = rw (← f, ← h, not-false q n)
 
@@ -50,30 +50,30 @@ module _ (e : Endian) (b : List ℕ) (d : Directory) where
     unfolding dateIn
     date-other n = rw (← f, ← h, not-true q n)
 
-    module _ (n : not q ≡ false) {i : Bool} (j : i ≡ leb (x .value + 20) (length b)) where
+    module _ (n : not q ≡ false) {i : Bool} (j : i ≡ leb (x .place + 20) (length b)) where
       pub date-outside : not i ≡ true → refused 35 ≡ dateIn e b d
       unfolding dateIn valueOf
       date-outside o = rw (← f, ← h, not-false q n, ← j, not-true i o)
 
-      pub date-read : not i ≡ false → {o : Outcome Time} → o ≡ time (part b (x .value) (x .value + 20 - x .value)) → o ≡ dateIn e b d
+      pub date-read : not i ≡ false → {o : Outcome Time} → o ≡ time (part b (x .place) (x .place + 20 - x .place)) → o ≡ dateIn e b d
       unfolding dateIn valueOf
-      date-read k g = rw (← f, ← h, not-false q n, ← j, not-false i k) (rw (as-many (x .value) 20) at g)
+      date-read k g = rw (← f, ← h, not-false q n, ← j, not-false i k) (rw (as-many (x .place) 20) at g)
 
 -- ---- The bias
 
 module _ (e : Endian) (b : List ℕ) (x : Entry) {q : Bool} (h : q ≡ holds SRATIONAL 1 x) where
-  pub bias-other : not q ≡ true → refused 38 ≡ biasOf e b x
-  unfolding biasOf
+  pub bias-other : not q ≡ true → refused 38 ≡ entryBias e b x
+  unfolding entryBias
   bias-other n = rw (← h, not-true q n)
 
-  module _ (n : not q ≡ false) {i : Bool} (j : i ≡ leb (x .value + 8) (length b)) where
-    pub bias-outside : not i ≡ true → refused 35 ≡ biasOf e b x
-    unfolding biasOf valueOf
+  module _ (n : not q ≡ false) {i : Bool} (j : i ≡ leb (x .place + 8) (length b)) where
+    pub bias-outside : not i ≡ true → refused 35 ≡ entryBias e b x
+    unfolding entryBias valueOf
     bias-outside o = rw (← h, not-false q n, ← j, not-true i o)
 
-    pub bias-read : not i ≡ false → {o : Outcome Fraction} → o ≡ fractionIn e (part b (x .value) (x .value + 8 - x .value)) → o ≡ biasOf e b x
-    unfolding biasOf valueOf
-    bias-read k g = rw (← h, not-false q n, ← j, not-false i k) (rw (as-many (x .value) 8) at g)
+    pub bias-read : not i ≡ false → {o : Outcome Fraction} → o ≡ fractionIn e (part b (x .place) (x .place + 8 - x .place)) → o ≡ entryBias e b x
+    unfolding entryBias valueOf
+    bias-read k g = rw (← h, not-false q n, ← j, not-false i k) (rw (as-many (x .place) 8) at g)
 
 module _ (e : Endian) (b : List ℕ) (d : Directory) where
   pub bias-missing : none ≡ find e b d exposureBiasValue → fine none ≡ biasIn e b d
@@ -81,11 +81,11 @@ module _ (e : Endian) (b : List ℕ) (d : Directory) where
   bias-missing f = rw (← f)
 
   module _ (x : Entry) (f : some x ≡ find e b d exposureBiasValue) where
-    pub bias-known : {y : Fraction} → fine y ≡ biasOf e b x → fine (some y) ≡ biasIn e b d
+    pub bias-known : {y : Fraction} → fine y ≡ entryBias e b x → fine (some y) ≡ biasIn e b d
     unfolding biasIn ifThere
     bias-known g = rw (← f, ← g)
 
-    pub bias-refused : {n : ℕ} → refused n ≡ biasOf e b x → refused n ≡ biasIn e b d
+    pub bias-refused : {n : ℕ} → refused n ≡ entryBias e b x → refused n ≡ biasIn e b d
     unfolding biasIn ifThere
     bias-refused g = rw (← f, ← g)
 

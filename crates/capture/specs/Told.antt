@@ -36,7 +36,7 @@ datedOf (d.Refused e) = refused (tiff.number e)
 
 -- an entry that was found, with its tag
 abbrev pub entryOf : ℕ → ℕ → ℕ → ℕ → doc-directory.Entry
-entryOf tag kind count value = record { tag = tag; kind = kind; count = count; value = value }
+entryOf tag kind count place = record { tag = tag; kind = kind; count = count; place = place }
 
 abbrev pub ratioOf : Ratio → Outcome doc-fraction.Fraction
 ratioOf (r.Known x) = fine (fractionOf x)

@@ -16,6 +16,7 @@ const DATE_TIME_ORIGINAL: u16 = 0x9003;
 
 const ASCII: u16 = 2;
 
+// The date, or why there is none.
 pub(crate) enum Dated {
     Taken(Time),
     Refused(Fault),
@@ -28,14 +29,14 @@ pub(crate) fn date_in(order: Endian, block: &[u8], from: usize, count: usize) ->
 {
     match tiff::find(order, block, from, count, DATE_TIME_ORIGINAL) {
         Found::Missing => Dated::Refused(Fault::NoDate),
-        Found::Entry { kind, count, value } => {
+        Found::Entry { kind, count, place } => {
             if !holds(kind, count, ASCII, 20) {
                 return Dated::Refused(Fault::NoDate);
             }
-            if !tiff::inside(block, value, 20) {
+            if !tiff::inside(block, place, 20) {
                 return Dated::Refused(Fault::Outside);
             }
-            match dates::parse(&block[value..value + 20]) {
+            match dates::parse(&block[place..place + 20]) {
                 Parsed::Taken(time) => Dated::Taken(time),
                 Parsed::NotATime => Dated::Refused(Fault::NoDate),
             }

@@ -1,4 +1,5 @@
-// When a picture was taken, and its exposure bias: from an Exif block, or from an image by way of its block.
+// When a picture was taken, and its exposure bias: from an Exif block, or from an image by way of its block. Each step has an enum of its own for its
+// answer, in the place of Rust's `Result`.
 mod bias;
 mod date;
 mod entry;
@@ -31,13 +32,13 @@ pub struct Capture {
     pub bias: Bias,
 }
 
-// What a block says, or why it doesn't.
+// What was read of a block, or why it was refused.
 pub enum Captured {
     Read(Capture),
     Refused(Fault),
 }
 
-// What an image says; why it has no block (28 too); or why its block doesn't say it.
+// What was read; or why extraction handed out no block (28 too: the block is longer than the buffer); or why the block was refused.
 pub enum Photo {
     Read(Capture),
     NoBlock(Refusal),
@@ -50,11 +51,11 @@ fn in_order(dated: Dated, biased: Biased) -> Captured
 {
     match dated {
         Dated::Refused(e) => Captured::Refused(e),
-        Dated::Taken(first) => match biased {
+        Dated::Taken(time) => match biased {
             Biased::Refused(e) => Captured::Refused(e),
-            Biased::Read(second) => Captured::Read(Capture {
-                time: first,
-                bias: second,
+            Biased::Read(bias) => Captured::Read(Capture {
+                time: time,
+                bias: bias,
             }),
         },
     }

@@ -14,6 +14,7 @@ const EXIF_POINTER: u16 = 0x8769;
 
 const LONG: u16 = 4;
 
+// Where the Exif directory is, or why that isn't known.
 pub(crate) enum Pointer {
     To(usize),
     Refused(Fault),
@@ -26,11 +27,11 @@ pub(crate) fn exif_at(order: Endian, block: &[u8], from: usize, count: usize) ->
 {
     match tiff::find(order, block, from, count, EXIF_POINTER) {
         Found::Missing => Pointer::Refused(Fault::NoExifPointer),
-        Found::Entry { kind, count, value } => {
+        Found::Entry { kind, count, place } => {
             if !holds(kind, count, LONG, 1) {
                 return Pointer::Refused(Fault::NoExifPointer);
             }
-            Pointer::To(value)
+            Pointer::To(place)
         }
     }
 }

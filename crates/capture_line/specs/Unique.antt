@@ -1,4 +1,5 @@
--- No two outcomes, answer and both buffers together, meet a contract of this crate.
+-- No two outcomes, answer and both buffers together, meet the contract of `photo_line` or of `photo_line_whole`. That of `print_line` leaves its answer
+-- open: what standard output takes is not known to a contract.
 use mathlib.Core.Path.{_≡_, sym, _∙_}
 use Prim.Native.Nat.{ℕ, _≤_}
 use mathlib.Core.List.{List, _++_}

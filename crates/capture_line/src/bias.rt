@@ -11,7 +11,7 @@ ghost use Rattle.capture.specs.Told.{biasOf};
 use capture::Bias;
 use fraction::Fraction;
 
-// The size of the least i64 is no i64, but one less than it is.
+// `-x` would overflow for the least i64, so it is made one step short.
 fn magnitude(x: i64) -> u64
     ensures { λ r. ⌜ r ≡ natAbs x ⌝ }
 {

@@ -20,10 +20,10 @@ use capture::Photo;
 use libc::STDOUT_FILENO;
 use time::put_time;
 
-// No line is longer.
+// No line is longer (`line-limit` in capture_rules, Demands/Photo).
 pub const LONGEST_LINE: usize = 62;
 
-// Every line stands at the front of the buffer.
+// From 0 on: every line stands at the front of the buffer.
 fn put_capture(capture: Capture, out: &mut [u8]) -> usize
     requires { ⌜ PrintableLine (fine (captureOf capture)) ⌝ }
     ensures { λ r. ⌜ Wrote (lineText (fine (captureOf capture))) 0 (now (out .entry)) r (now (out .exit)) ⌝ }

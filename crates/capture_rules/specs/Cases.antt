@@ -20,6 +20,7 @@ blockMM =
     ++ line 30 0x0002_9003_0002_00000014_00000038_9204_000a_00000001_0000004c_00000000
     ++ (ascii "2023:06:14 09:26:53" ++ line 9 0x00_ffffffff_00000002)
 
+-- the same in the other byte order, with the bias as 2 over -4
 unfoldable pub blockII : List ℕ
 blockII =
     line 8 0x4949_2a00_08000000

@@ -27,12 +27,13 @@ examples =
     ∷ gives 0x80000000 0xffffffff (pos (2 ^ 31)) 1
     ∷ []
 
-unfoldable pub alike : Fraction → Fraction → Bool
-alike f g = leZ (f .num) (g .num) && leZ (g .num) (f .num) && eqb (f .den) (g .den)
+-- the same numerator and the same denominator
+unfoldable pub equal : Fraction → Fraction → Bool
+equal f g = leZ (f .num) (g .num) && leZ (g .num) (f .num) && eqb (f .den) (g .den)
 
 unfoldable pub right : Example → Bool
-right e = alike (lowest (signed32 (e .above)) (signed32 (e .below))) (e .fraction)
+right e = equal (lowest (signed32 (e .above)) (signed32 (e .below))) (e .fraction)
 
 pub all-examples : T (every right examples)
-unfolding every right alike examples gives signed32 gcdIn lowest
+unfolding every right equal examples gives signed32 gcdIn lowest
 all-examples = tt

@@ -2,11 +2,11 @@
 
 -- bytes of the shape of a date: their length, and digits where the numbers stand
 pub mod Shape
--- the date handed out is a date
+-- a date that is handed out is one of the calendar
 pub mod Calendar
 -- what is printed of a date is what stood there
 pub mod TimeText
--- the greatest common divisor is one
+-- Euclid's algorithm gives the greatest common divisor
 pub mod Euclid
 -- four bytes as a signed number
 pub mod Signs

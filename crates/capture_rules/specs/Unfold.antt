@@ -7,11 +7,11 @@ use Rattle.capture_rules.specs.Doc.Header.{orderOf, header}
 use Rattle.capture_rules.specs.Doc.Directory.{entryAt, entries, directory, firstWith, find, valueOf}
 use Rattle.capture_rules.specs.Doc.Time.{pattern, fits, alike, decimalAt, timeIn, leap, daysIn, isDate, isClock, time}
 use Rattle.capture_rules.specs.Doc.Fraction.{signed32, gcdIn, lowest}
-use Rattle.capture_rules.specs.Doc.Capture.{exifAt, dateIn, fractionIn, biasOf, ifThere, biasIn, inOrder, captureIn, captureFrom, capture, afterwards, photo}
+use Rattle.capture_rules.specs.Doc.Capture.{exifAt, dateIn, fractionIn, entryBias, ifThere, biasIn, inOrder, captureIn, captureFrom, capture, ofAnswer, photo}
 use Rattle.capture_rules.specs.Doc.Line.{two, timeText, signText, biasText, lineText}
 
 unfoldable pub request : Unit {0}
 unfolding any only firstOf numberAt placeIn numberOf numberIn digit decimalTo decimal orderOf header entryAt entries directory firstWith find valueOf
     pattern fits alike decimalAt timeIn leap daysIn isDate isClock time signed32 gcdIn lowest
-    exifAt dateIn fractionIn biasOf ifThere biasIn inOrder captureIn captureFrom capture afterwards photo two timeText signText biasText lineText
+    exifAt dateIn fractionIn entryBias ifThere biasIn inOrder captureIn captureFrom capture ofAnswer photo two timeText signText biasText lineText
 request = tt

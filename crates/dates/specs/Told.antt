@@ -1,4 +1,4 @@
--- What the answer says, in the document's words.
+-- What the answer says, in request six's words.
 use Rattle.rules.specs.Doc.Outcomes.{Outcome, fine, refused}
 use Rattle.capture_rules.specs.Doc.Time as doc
 use Rattle.dates.specs.declared.Time.{Time}

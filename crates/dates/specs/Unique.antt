@@ -17,9 +17,6 @@ abbrev pub asParsed : Outcome doc.Time → Parsed
 asParsed (fine t) = Taken (asTime t)
 asParsed (refused n) = NotATime
 
-pub time-back : (x : Time) → asTime (timeOf x) ≡ x
-time-back x = refl
-
 pub parsed-back : (x : Parsed) → asParsed (parsedOf x) ≡ x
 parsed-back (Taken t) = refl
 parsed-back NotATime = refl

@@ -60,7 +60,7 @@ impl Endian {
     }
 }
 
-// For the three widths of a box's fields: that Bytes' own numbers are the big-endian ones is shown once, here.
+// Big-endian, as the fields of boxes are. That `numberAt` is the big-endian number is shown here, once for all widths.
 fn load_big(buf: &[u8], from: usize, n: usize) -> u64
     requires { ⌜ (n ≤ 8) × (from + n ≤ length (now buf)) ⌝ }
     ensures { λ r. ⌜ (r ≡ numberAt (now (buf .entry)) from n) × (r < 256 ^ n) ⌝ }

@@ -41,7 +41,7 @@ fn with_sign(negative: bool, size: u64) -> i64
     if negative { -wide } else { wide }
 }
 
-// Euclid's.
+// By Euclid: x and y become y and what is left of x, and their greatest common divisor stays.
 fn gcd(a: u64, b: u64) -> u64
     ensures { λ r. ⌜ r ≡ doc.gcd a b ⌝ }
 {

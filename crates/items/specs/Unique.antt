@@ -4,7 +4,8 @@ use mathlib.Core.Option.{Option, none, some}
 use mathlib.Core.List.{List}
 use Prim.Native.Nat.{ℕ}
 use Rattle.rules.specs.Doc.Outcomes.{Outcome, fine, refused}
-use Rattle.boxes.specs.Unique.{one, asRefusal, refusal-back}
+use Rattle.rules.specs.Laws.Back.{one}
+use Rattle.boxes.specs.Unique.{asRefusal, refusal-back}
 use Rattle.items.specs.Told.{idOf, idsOf}
 use Rattle.items.specs.Wanted.{infeOver, iinfOver}
 use Rattle.items.specs.declared.ItemId.{ItemId}

@@ -5,7 +5,8 @@ use Prim.Native.Nat.{ℕ, _+_}
 use lib.ListN.{drop}
 use Rattle.rules.specs.Doc.Outcomes.{Outcome, fine, refused}
 use Rattle.rules.specs.Doc.Iloc as doc
-use Rattle.boxes.specs.Unique.{one, asRefusal, refusal-back}
+use Rattle.rules.specs.Laws.Back.{one}
+use Rattle.boxes.specs.Unique.{asRefusal, refusal-back}
 use Rattle.locations.specs.Told.{extentIn, extentsOf, ilocOf}
 use Rattle.locations.specs.declared.extent.Extent.{Extent}
 use Rattle.locations.specs.declared.Location.{Location}

@@ -10,7 +10,8 @@ use denote.Ref.{RefT, now}
 use Rattle.rules.specs.Doc.Outcomes.{Outcome, fine, refused}
 use Rattle.rules.specs.Doc.Headers.{Box, childAt}
 use Rattle.boxes.specs.Told.{child, fieldOf}
-use Rattle.boxes.specs.Unique.{one, asRefusal, refusal-back, asChild, child-back, field-one}
+use Rattle.rules.specs.Laws.Back.{one}
+use Rattle.boxes.specs.Unique.{asRefusal, refusal-back, asChild, child-back, field-one}
 use Rattle.boxes.specs.declared.field.Number.{Number}
 use Rattle.splitter.specs.Told.{held, sizedOf, fullBoxOf, array4Of, pieceOf}
 use Rattle.splitter.specs.Children.{wholeChildren}

@@ -69,9 +69,9 @@ module _ (e : Endian) (b : List ℕ) (tag at n : ℕ) {o : Option Entry} (inv : 
 
   -- the tag of the entry there
   module _ (h : 0 < n) {t : ℕ} (is : t ≡ numberIn e b at 2) where
-    pub find-here : t ≡ tag → {kind count value : ℕ}
-        → kind ≡ numberIn e b (at + 2) 2 → count ≡ numberIn e b (at + 4) 4 → value ≡ numberIn e b (at + 8) 4
-        → some (record { tag = tag; kind = kind; count = count; value = value }) ≡ o
+    pub find-here : t ≡ tag → {kind count place : ℕ}
+        → kind ≡ numberIn e b (at + 2) 2 → count ≡ numberIn e b (at + 4) 4 → place ≡ numberIn e b (at + 8) 4
+        → some (record { tag = tag; kind = kind; count = count; place = place }) ≡ o
     unfolding find firstWith entries entryAt only firstOf
     find-here s p q r =
         let k : n ≡ suc (n - 1) = omega arith in

@@ -34,4 +34,4 @@ directoryOf (d.Refused e) = refused (number e)
 -- of what is found for a tag: an answer doesn't repeat the tag
 abbrev pub foundOf : ℕ → Found → Option doc-directory.Entry
 foundOf tag f.Missing = none
-foundOf tag (f.Entry kind count value) = some (record { tag = tag; kind = kind; count = count; value = value })
+foundOf tag (f.Entry kind count place) = some (record { tag = tag; kind = kind; count = count; place = place })

@@ -84,12 +84,12 @@ inside-one b at n e f = e ∙ sym f
 
 pub asFound : Option doc-directory.Entry → Found
 asFound none = f.Missing
-asFound (some a) = f.Entry (a .kind) (a .count) (a .value)
+asFound (some a) = f.Entry (a .kind) (a .count) (a .place)
 
 pub found-back : (tag : ℕ) (a : Found) → asFound (foundOf tag a) ≡ a
 unfolding asFound
 found-back tag f.Missing = refl
-found-back tag (f.Entry kind count value) = refl
+found-back tag (f.Entry kind count place) = refl
 
 -- of `find`
 pub find-one : (order : Endian) (b : List ℕ) (place : doc-directory.Directory) (tag : ℕ) {p q : Found}

@@ -18,10 +18,10 @@ pub enum Directory {
     Refused(Fault),
 }
 
-// An entry's type, how many values it has, and its last four bytes: where they are, or the value itself.
+// An entry's type, how many values it has, and where they stand.
 pub enum Found {
     Missing,
-    Entry { kind: u16, count: u32, value: usize },
+    Entry { kind: u16, count: u32, place: usize },
 }
 
 // Whether the `n` bytes from `at` are inside the block. No sum is made, so none overflows.
@@ -63,7 +63,7 @@ pub fn find(order: Endian, block: &[u8], from: usize, count: usize, tag: u16) ->
             return Found::Entry {
                 kind: order.loadu16(block, at + 2),
                 count: order.loadu32(block, at + 4),
-                value: order.loadu32(block, at + 8) as usize,
+                place: order.loadu32(block, at + 8) as usize,
             };
         }
         left -= 1;

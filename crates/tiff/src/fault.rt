@@ -1,8 +1,8 @@
-// Why a block does not answer, and the numbers.
+// Why a block is refused, and the numbers.
 ghost use mathlib.Core.Path.{_≡_};
 ghost use Rattle.tiff.specs.Told.{number};
 
-// With the numbers of request six, for all that reads a block.
+// One enum for the two crates that read a block, this one and `capture`, so that each number stands once.
 pub enum Fault {
     Header = 34,
     Outside = 35,

@@ -36,6 +36,7 @@ fn read_in(order: Endian, block: &[u8]) -> Header
     }
 }
 
+// The two letters are the same, so either byte order reads them alike.
 pub fn read_header(block: &[u8]) -> Header
     ensures { λ r. ⌜ headerOf r ≡ header (now (block .entry)) ⌝ }
 {

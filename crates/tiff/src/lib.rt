@@ -1,4 +1,4 @@
-// The front of an Exif block: its header and its directories.
+// An Exif block is laid out like a TIFF file: a header, and directories. This crate reads those; which entries are wanted is for `capture`.
 mod directory;
 mod fault;
 mod header;

@@ -1,4 +1,4 @@
--- Of a block that is taken: the date is a date and stands in the block, and the bias is a fraction in lowest terms that stands in the block, or the
+-- Of a block that is read: the date is a date and stands in the block, and the bias is a fraction in lowest terms that stands in the block, or the
 -- Exif directory has none.
 use mathlib.Core.Path.{_≡_, refl, sym, ap, _∙_}
 use mathlib.Core.Bool.{not, true≢false}
@@ -22,7 +22,7 @@ use Rattle.capture_rules.specs.Doc.Directory.{Entry, Directory, director
 use Rattle.capture_rules.specs.Doc.Time.{Time, time}
 use Rattle.capture_rules.specs.Doc.Fraction.{Fraction, signed32, lowest}
 use Rattle.capture_rules.specs.Doc.Line.{timeText}
-use Rattle.capture_rules.specs.Doc.Capture.{Capture, exifAt, dateIn, fractionIn, biasOf, ifThere, biasIn, inOrder, captureIn, captureFrom, capture}
+use Rattle.capture_rules.specs.Doc.Capture.{Capture, exifAt, dateIn, fractionIn, entryBias, ifThere, biasIn, inOrder, captureIn, captureFrom, capture}
 use Rattle.capture_rules.specs.Laws.Calendar.{Real, time-real}
 use Rattle.capture_rules.specs.Laws.TimeText.{text-back}
 use Rattle.capture_rules.specs.Laws.Signs.{signed32-nonzero}
@@ -31,7 +31,7 @@ use Rattle.capture_rules.specs.Laws.LineText.{Small}
 
 -- ---- What was read
 
--- A block that is taken has a header, a first directory, and the Exif directory that this points to, which has the date and the bias.
+-- A block that is read has a header, a first directory, and the Exif directory that this points to, which has the date and the bias.
 pub record Reading (b : List ℕ) (c : Capture) : Type 0 where
   pub head : Header
   pub first : Directory
@@ -75,15 +75,15 @@ reading-of b {c} e =
     }
 
 -- the n bytes that an entry points to stand in the block
-value-part : (b : List ℕ) (n : ℕ) (x : Entry) {v : List ℕ} → fine v ≡ valueOf b n x → (x .value + n ≤ length b) × (v ≡ part b (x .value) n)
+value-part : (b : List ℕ) (n : ℕ) (x : Entry) {v : List ℕ} → fine v ≡ valueOf b n x → (x .place + n ≤ length b) × (v ≡ part b (x .place) n)
 unfolding valueOf
 value-part b n x {v} e =
-    let (u, p, q) = bind-fine (require (leb (x .value + n) (length b)) 35) (λ u. fine (part b (x .value) n)) e in
-    (leb-true (x .value + n) (length b) (required _ 35 p), cc)
+    let (u, p, q) = bind-fine (require (leb (x .place + n) (length b)) 35) (λ u. fine (part b (x .place) n)) e in
+    (leb-true (x .place + n) (length b) (required _ 35 p), cc)
 
 -- ---- The date
 
--- twenty bytes of a block are taken as a date
+-- twenty bytes of a block are read as a date
 record DateBytes (b : List ℕ) (t : Time) : Type 0 where
   at : ℕ
   inside : at + 20 ≤ length b
@@ -96,30 +96,30 @@ date-bytes e b d {t} f =
     let (u, r, s) = bind-fine (require (holds ASCII 20 x) 37) _ q in
     let (v, i, j) = bind-fine (valueOf b 20 x) time s in
     let k = value-part b 20 x i in
-    record { at = x .value; inside = k .0; is-time = rw (← k .1) (sym j) }
+    record { at = x .place; inside = k .0; is-time = rw (← k .1) (sym j) }
 
 -- ---- The bias
 
--- eight bytes of a block are taken as a fraction
+-- eight bytes of a block are read as a fraction
 record BiasBytes (e : Endian) (b : List ℕ) (f : Fraction) : Type 0 where
   at : ℕ
   inside : at + 8 ≤ length b
   nonzero : numberIn e b (at + 4) 4 ≡ 0 → ⊥
   is-lowest : f ≡ lowest (signed32 (numberIn e b at 4)) (signed32 (numberIn e b (at + 4) 4))
 
-bias-of : (e : Endian) (b : List ℕ) (x : Entry) {f : Fraction} → biasOf e b x ≡ fine f → BiasBytes e b f
-unfolding biasOf fractionIn
+bias-of : (e : Endian) (b : List ℕ) (x : Entry) {f : Fraction} → entryBias e b x ≡ fine f → BiasBytes e b f
+unfolding entryBias fractionIn
 bias-of e b x {f} g =
     let (u, p, q) = bind-fine (require (holds SRATIONAL 1 x) 38) _ (sym g) in
     let (v, r, s) = bind-fine (valueOf b 8 x) (fractionIn e) q in
     let k = value-part b 8 x r in
-    let above : numberIn e v 0 4 ≡ numberIn e b (x .value) 4 = rw (k .1, number-in-part e b (x .value) 8 0 4 (lit≤ tt), add-zero (x .value)) in
-    let below : numberIn e v 4 4 ≡ numberIn e b (x .value + 4) 4 = rw (k .1) (number-in-part e b (x .value) 8 4 4 (lit≤ tt)) in
+    let above : numberIn e v 0 4 ≡ numberIn e b (x .place) 4 = rw (k .1, number-in-part e b (x .place) 8 0 4 (lit≤ tt), add-zero (x .place)) in
+    let below : numberIn e v 4 4 ≡ numberIn e b (x .place + 4) 4 = rw (k .1) (number-in-part e b (x .place) 8 4 4 (lit≤ tt)) in
     let quotient = lowest (signed32 (numberIn e v 0 4)) (signed32 (numberIn e v 4 4)) in
     let (w, i, j) = bind-fine (require (not (eqb (numberIn e v 4 4) 0)) 39) (λ w. fine quotient) s in
     let same : f ≡ quotient = cc in
     record {
-      at = x .value;
+      at = x .place;
       inside = k .0;
       nonzero = λ z. true≢false (sym (required _ 39 i) ∙ ap not (eq-eqb (numberIn e v 4 4) 0 (below ∙ z)));
       is-lowest = rw (← above, ← below) same;
@@ -143,7 +143,7 @@ bias-bytes : (b : List ℕ) {c : Capture} (r : Reading b c) {f : Fraction} → c
 unfolding biasIn
 bias-bytes b r e =
     let order = r .head .order in
-    let (x, p) = there-some (biasOf order b) (find order b (r .exif) exposureBiasValue) (r .is-bias ∙ ap fine e) in
+    let (x, p) = there-some (entryBias order b) (find order b (r .exif) exposureBiasValue) (r .is-bias ∙ ap fine e) in
     bias-of order b x p
 
 -- ---- What is handed out
@@ -221,4 +221,4 @@ pub missing-bias : (b : List ℕ) {c : Capture} (r : Reading b c) → c .bias �
 unfolding biasIn
 missing-bias b r e =
     let order = r .head .order in
-    there-none (biasOf order b) (find order b (r .exif) exposureBiasValue) (r .is-bias ∙ ap fine e)
+    there-none (entryBias order b) (find order b (r .exif) exposureBiasValue) (r .is-bias ∙ ap fine e)

@@ -1,4 +1,5 @@
--- What a refusal means where more than one thing is wrong: the first directory comes before the Exif directory, the date before the bias.
+-- What a refusal means where more than one thing is wrong: the first directory comes before the Exif directory, and in
+-- that one the date before the bias.
 use mathlib.Core.Path.{_≡_}
 use Prim.Native.Nat.{ℕ}
 use mathlib.Core.List.{List}

@@ -3,6 +3,7 @@
 use mathlib.Core.Path.{_≡_, refl, sym, ap, _∙_}
 use mathlib.Core.Bool.{Bool, true, false, _&&_}
 use mathlib.Core.Logic.{_⊎_, inl, inr, ⊎-elim}
+use mathlib.Core.Option.{some}
 use mathlib.Core.List.{List, [], _∷_, _++_}
 use Prim.Native.Nat.{ℕ, zero, suc, _≤_, _<_}
 use native.Mathlib.Nat.{le-trans, pos-of-ne-zero}
@@ -23,12 +24,14 @@ use Rattle.rules.specs.Laws.Refusals.{Numbered as ExtractionNumbered, block-num
 use Rattle.rules.specs.Laws.Limit.{block-limit}
 use Rattle.rules.specs.Demands.One.{number-limit}
 use Rattle.rules.specs.Demands.Three.{quiet}
-use Rattle.capture_rules.specs.Doc.Capture.{Capture, capture, afterwards, photo}
+use Rattle.capture_rules.specs.Doc.Header.{Header, header}
+use Rattle.capture_rules.specs.Doc.Fraction.{Fraction}
+use Rattle.capture_rules.specs.Doc.Capture.{Capture, capture, ofAnswer, photo}
 use Rattle.capture_rules.specs.Doc.Line.{lineText}
 use Rattle.capture_rules.specs.Laws.Calendar.{Real}
 use Rattle.capture_rules.specs.Laws.LineText.{Small, line-length, refusal-length}
 use Rattle.capture_rules.specs.Laws.Faults.{Numbered, capture-numbered}
-use Rattle.capture_rules.specs.Demands.Block.{date-real, bias-small}
+use Rattle.capture_rules.specs.Demands.Block.{InLowestTerms, date-real, bias-lowest, bias-small}
 
 -- ---- What the block says
 
@@ -37,14 +40,21 @@ block-back : (img ps rest : List ℕ) → take (length ps) (bytesAt img ps ++ re
 unfolding bytesAt
 block-back img ps rest = rw (← length-map ps (byteAt img)) (take-append-seam (bytesAt img ps) rest)
 
+-- The block is made of bytes if the image is.
+pub bytes-of-block : (img ps : List ℕ) → Bytes img → Bytes (bytesAt img ps)
+unfolding bytesAt
+bytes-of-block img [] b k = record { fits = lit< tt }
+bytes-of-block img (i ∷ ps) b zero = b i
+bytes-of-block img (i ∷ ps) b (suc k) = bytes-of-block img ps b k
+
 module _ (img out : List ℕ) where
   -- what a block says if there is room for it
   abbrev pub saidBy : List ℕ → Outcome Capture
   saidBy ps = require (leb (length ps) (length out)) 28 >>= λ u. capture (bytesAt img ps)
 
   handed-on : (o : Outcome (List ℕ)) → ExtractionNumbered o
-      → afterwards (answerWith out (bytesAt img (once (handed (length out)) o)) o) ≡ (o >>= saidBy)
-  unfolding afterwards answerWith once handed
+      → ofAnswer (answerWith out (bytesAt img (once (handed (length out)) o)) o) ≡ (o >>= saidBy)
+  unfolding ofAnswer answerWith once handed
   handed-on (refused n) p = rw (ne-eqb n 0 (λ e. not-given n 0 p e (λ t. t)))
   handed-on (fine ps) p = go (leb (length ps) (length out))
     where
@@ -52,7 +62,7 @@ module _ (img out : List ℕ) where
       written t = bytesAt img (if t then ps else [])
 
       go : (t : Bool)
-          → afterwards (record { number = if t then 0 else 28; length = length ps; output = written t ++ drop (length (written t)) out })
+          → ofAnswer (record { number = if t then 0 else 28; length = length ps; output = written t ++ drop (length (written t)) out })
           ≡ (require t 28 >>= λ u. capture (bytesAt img ps))
       go true = ap capture (block-back img ps (drop (length (bytesAt img ps)) out))
       go false = refl
@@ -77,16 +87,17 @@ module _ (img out : List ℕ) where
   pub photo-real : {c : Capture} → photo img out ≡ fine c → Real (c .time)
   photo-real e = let (ps, p, q) = photo-block e in date-real (bytesAt img ps) q
 
+  -- A bias is a fraction in lowest terms that stands in the block.
+  pub photo-lowest : Bytes img → {c : Capture} → photo img out ≡ fine c → {f : Fraction} → c .bias ≡ some f
+      → (ps : List ℕ) × (block img ≡ fine ps) × (h : Header) × (header (bytesAt img ps) ≡ fine h) × InLowestTerms (h .order) (bytesAt img ps) f
+  photo-lowest bytes e g =
+      let (ps, p, q) = photo-block e in
+      let (h, r, lowest) = bias-lowest (bytesAt img ps) q (bytes-of-block img ps bytes) g in
+      (ps, p, h, r, lowest)
+
   -- Neither part of a bias is larger than 2^31.
   pub photo-small : {c : Capture} → photo img out ≡ fine c → Small (c .bias)
   photo-small e = let (ps, p, q) = photo-block e in bias-small (bytesAt img ps) q
-
--- The block is made of bytes if the image is.
-pub block-bytes : (img ps : List ℕ) → Bytes img → Bytes (bytesAt img ps)
-unfolding bytesAt
-block-bytes img [] b k = record { fits = lit< tt }
-block-bytes img (i ∷ ps) b zero = b i
-block-bytes img (i ∷ ps) b (suc k) = block-bytes img ps b k
 
 -- ---- The output buffer
 
@@ -131,12 +142,12 @@ block-refusal b e = go (capture b) e (capture-numbered b)
 module _ (img out : List ℕ) where
   -- A number of extraction other than 0 refuses the image.
   pub extraction-refuses : (answer img out .number ≡ 0 → ⊥) → photo img out ≡ refused (answer img out .number)
-  unfolding photo afterwards
+  unfolding photo ofAnswer
   extraction-refuses h = rw (ne-eqb (answer img out .number) 0 h)
 
   -- By the number it can be told whether extraction refused the image or its block was refused.
   pub refused-by : {n : ℕ} → photo img out ≡ refused n → ByExtraction img out n ⊎ ByBlock img out n
-  unfolding photo afterwards
+  unfolding photo ofAnswer
   refused-by {n} e = go (eqb (answer img out .number) 0) refl
     where
       go : (t : Bool) → eqb (answer img out .number) 0 ≡ t → ByExtraction img out n ⊎ ByBlock img out n
@@ -165,4 +176,4 @@ line-limit img out = go (photo img out) refl
 -- Demand 3: pictures have no say. Of two images of one length that agree on the bytes consulted for the first, the same is said.
 pub photo-quiet : (a b out : List ℕ) → length a ≡ length b → Agree a b (consulted a (length out)) → photo a out ≡ photo b out
 unfolding photo
-photo-quiet a b out e g = ap afterwards (quiet a b out e g)
+photo-quiet a b out e g = ap ofAnswer (quiet a b out e g)

@@ -1,5 +1,5 @@
 -- The steps in reading order, date before bias.
-use Prim.Native.Nat.{ℕ, zero}
+use Prim.Native.Nat.{ℕ}
 use mathlib.Core.Bool.{not}
 use mathlib.Core.Option.{Option, none, some}
 use mathlib.Core.List.{List}
@@ -13,7 +13,7 @@ use Rattle.capture_rules.specs.Doc.Directory.{ASCII, LONG, SRATIONAL, ex
 use Rattle.capture_rules.specs.Doc.Time.{Time, time}
 use Rattle.capture_rules.specs.Doc.Fraction.{Fraction, signed32, lowest}
 
--- The bias may be missing.
+-- What is asked of a picture: when it was taken, and its exposure bias, which may be missing.
 pub record Capture : Type 0 where
   pub time : Time
   pub bias : Option Fraction
@@ -23,7 +23,7 @@ unfoldable pub exifAt : Endian → List ℕ → Directory → Outcome ℕ
 exifAt e b d = do
   x ← given (find e b d exifPointer) 36
   _ ← require (holds LONG 1 x) 36
-  fine (x .value)
+  fine (x .place)
 
 -- When the picture was taken, by the Exif directory. No such entry, or not ASCII of count 20: 37.
 unfoldable pub dateIn : Endian → List ℕ → Directory → Outcome Time
@@ -39,22 +39,22 @@ fractionIn e v = do
   _ ← require (not (eqb (numberIn e v 4 4) 0)) 39
   fine (lowest (signed32 (numberIn e v 0 4)) (signed32 (numberIn e v 4 4)))
 
--- the bias of an entry that is there. Not SRATIONAL of count 1: 38.
-unfoldable pub biasOf : Endian → List ℕ → Entry → Outcome Fraction
-biasOf e b x = do
+-- the bias that an entry has. Not SRATIONAL of count 1: 38.
+unfoldable pub entryBias : Endian → List ℕ → Entry → Outcome Fraction
+entryBias e b x = do
   _ ← require (holds SRATIONAL 1 x) 38
   v ← valueOf b 8 x
   fractionIn e v
 
--- A missing bias is said to be missing.
+-- No entry, no bias: that is an answer, and no refusal.
 unfoldable pub ifThere : {A B : Type 0} → (A → Outcome B) → Option A → Outcome (Option B)
 ifThere f none = fine none
 ifThere f (some x) = f x >>= λ y. fine (some y)
 
 unfoldable pub biasIn : Endian → List ℕ → Directory → Outcome (Option Fraction)
-biasIn e b d = ifThere (biasOf e b) (find e b d exposureBiasValue)
+biasIn e b d = ifThere (entryBias e b) (find e b d exposureBiasValue)
 
--- The date comes before the bias.
+-- Where both are refused, the number is the date's.
 unfoldable pub inOrder : Outcome Time → Outcome (Option Fraction) → Outcome Capture
 inOrder date bias = do
   t ← date
@@ -67,10 +67,10 @@ captureIn e b d = inOrder (dateIn e b d) (biasIn e b d)
 
 -- what the first directory leads to
 unfoldable pub captureFrom : Endian → List ℕ → Directory → Outcome Capture
-captureFrom e b d = do
-  at ← exifAt e b d
-  x ← directory e b at
-  captureIn e b x
+captureFrom e b first = do
+  at ← exifAt e b first
+  exif ← directory e b at
+  captureIn e b exif
 
 -- of a block
 unfoldable pub capture : List ℕ → Outcome Capture
@@ -80,9 +80,9 @@ capture b = do
   captureFrom (h .order) b d
 
 -- of what extraction answered: its number, or what its block says
-unfoldable pub afterwards : Answer → Outcome Capture
-afterwards a = require (eqb (a .number) 0) (a .number) >>= λ u. capture (take (a .length) (a .output))
+unfoldable pub ofAnswer : Answer → Outcome Capture
+ofAnswer a = require (eqb (a .number) 0) (a .number) >>= λ u. capture (take (a .length) (a .output))
 
 -- of an image, by extraction into an output buffer
 unfoldable pub photo : List ℕ → List ℕ → Outcome Capture
-photo img out = afterwards (answer img out)
+photo img out = ofAnswer (answer img out)

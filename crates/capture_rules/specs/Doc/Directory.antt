@@ -1,4 +1,5 @@
--- A directory is a count and that many entries of twelve bytes: a tag, a type, how many values, and their place, or the value itself where it is a LONG.
+-- A directory is a count and that many entries of twelve bytes: a tag, a type, how many values, and where they stand.
+-- Below, `e` is the byte order, `b` the block, `d` a directory, `x` an entry.
 use Prim.Native.Nat.{ℕ, zero, suc, _+_, _*_}
 use mathlib.Core.Bool.{Bool, _&&_}
 use mathlib.Core.Option.{Option}
@@ -10,7 +11,7 @@ use Rattle.rules.specs.Doc.Lists.{only, firstOf}
 use Rattle.rules.specs.Doc.Bytes.{part}
 use Rattle.rules.specs.Doc.Endian.{Endian, numberIn}
 
--- The types that are asked for.
+-- The types that are asked for: ASCII is text, LONG a number of four bytes, SRATIONAL two signed numbers of four bytes each, numerator and denominator.
 abbrev pub ASCII : ℕ
 ASCII = 2
 
@@ -20,7 +21,7 @@ LONG = 4
 abbrev pub SRATIONAL : ℕ
 SRATIONAL = 10
 
--- The tags that are looked for.
+-- The tags that are looked for, by Exif's names.
 abbrev pub exifPointer : ℕ
 exifPointer = 0x8769
 
@@ -30,16 +31,16 @@ dateTimeOriginal = 0x9003
 abbrev pub exposureBiasValue : ℕ
 exposureBiasValue = 0x9204
 
--- `value` is what the last four bytes say, whatever the type.
+-- `place` is what the last four bytes say: where the values stand, or for the pointer, where the Exif directory is.
 pub record Entry : Type 0 where
   pub tag : ℕ
   pub kind : ℕ
   pub count : ℕ
-  pub value : ℕ
+  pub place : ℕ
 
 unfoldable pub entryAt : Endian → List ℕ → ℕ → Entry
 entryAt e b at =
-    record { tag = numberIn e b at 2; kind = numberIn e b (at + 2) 2; count = numberIn e b (at + 4) 4; value = numberIn e b (at + 8) 4 }
+    record { tag = numberIn e b at 2; kind = numberIn e b (at + 2) 2; count = numberIn e b (at + 4) 4; place = numberIn e b (at + 8) 4 }
 
 -- n entries, from a position on
 unfoldable pub entries : Endian → List ℕ → ℕ → ℕ → List Entry
@@ -66,10 +67,10 @@ firstWith tag es = firstOf (only (λ x. eqb (x .tag) tag) es)
 unfoldable pub find : Endian → List ℕ → Directory → ℕ → Option Entry
 find e b d tag = firstWith tag (entries e b (d .from) (d .count))
 
--- so many values of a type
+-- whether an entry has just so many values of a type
 abbrev pub holds : ℕ → ℕ → Entry → Bool
-holds kind count x = eqb (x .kind) kind && eqb (x .count) count
+holds wanted many x = eqb (x .kind) wanted && eqb (x .count) many
 
 -- the n bytes that an entry points to. Any of them outside the block: 35.
 unfoldable pub valueOf : List ℕ → ℕ → Entry → Outcome (List ℕ)
-valueOf b n x = require (leb (x .value + n) (length b)) 35 >>= λ u. fine (part b (x .value) n)
+valueOf b n x = require (leb (x .place + n) (length b)) 35 >>= λ u. fine (part b (x .place) n)

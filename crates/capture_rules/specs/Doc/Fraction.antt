@@ -1,4 +1,4 @@
--- A fraction in lowest terms with a denominator above zero, the sign kept wherever it stood.
+-- A fraction in lowest terms: no number above 1 divides both parts, so 2/4 is 1/2. The denominator is above zero: a sign that stood below goes above.
 use Prim.Native.Nat.{ℕ, zero, suc, _-_, _/_, _%_, _^_}
 use mathlib.Core.Bool.{Bool, true, false, not, Bool·beq}
 use lib.IntN.{ℤ, pos, negℤ, natAbs}
@@ -10,11 +10,11 @@ pub record Fraction : Type 0 where
   pub num : ℤ
   pub den : ℕ
 
--- the signed number that four bytes hold which read as n: from 2^31 on it is below zero
+-- four bytes that read as n without a sign, read with one (two's complement): from 2^31 on it is below zero
 unfoldable pub signed32 : ℕ → ℤ
 signed32 n = if ltb n (2 ^ 31) then pos n else negℤ (pos (2 ^ 32 - n))
 
--- The greatest common divisor by Euclid, in at most n turns.
+-- The greatest common divisor by Euclid. A definition has to be seen to end, so it is given a number of turns, n.
 unfoldable pub gcdIn : ℕ → ℕ → ℕ → ℕ
 gcdIn zero a b = a
 gcdIn (suc n) a zero = a
@@ -24,7 +24,7 @@ gcdIn (suc n) a (suc b) = gcdIn n (suc b) (a % suc b)
 abbrev pub gcd : ℕ → ℕ → ℕ
 gcd a b = gcdIn b a b
 
--- a number by its size, and whether it is below zero
+-- a number by its size, which is the number without its sign, and whether it is below zero
 abbrev pub withSign : Bool → ℕ → ℤ
 withSign true n = negℤ (pos n)
 withSign false n = pos n

@@ -1,4 +1,4 @@
--- The header of a block: its byte order, 42, and where its first directory is.
+-- The header of a block: its byte order, 42, which every TIFF file has there, and where its first directory is.
 use Prim.Native.Nat.{ℕ}
 use mathlib.Core.Option.{Option, none, some}
 use mathlib.Core.List.{List}
@@ -20,7 +20,7 @@ pub record Header : Type 0 where
   pub order : Endian
   pub first : ℕ
 
--- `II` is little-endian, `MM` big-endian.
+-- `II` is little-endian, `MM` big-endian. The two letters are the same, so either byte order reads them alike.
 unfoldable pub orderOf : ℕ → Option Endian
 orderOf letters = if eqb letters II then some little else if eqb letters MM then some big else none
 

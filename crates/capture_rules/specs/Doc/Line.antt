@@ -15,7 +15,7 @@ use Rattle.capture_rules.specs.Doc.Capture.{Capture}
 unfoldable pub two : ℕ → List ℕ
 two n = digit (n / 10) ∷ digit (n % 10) ∷ []
 
--- three numbers with a byte between them
+-- three numbers with colons between them
 abbrev pub three : List ℕ → List ℕ → List ℕ → List ℕ
 three a b c = a ++ ascii ":" ++ b ++ ascii ":" ++ c
 

@@ -8,6 +8,7 @@ use Rattle.rules.specs.Doc.Lists.{any}
 use Rattle.rules.specs.Doc.Bytes.{byteAt}
 use Rattle.rules.specs.Doc.Text.{ascii}
 
+-- A date and a time of day. Elsewhere "the date", as in `dateIn` and `date=`, is both.
 pub record Time : Type 0 where
   pub year : ℕ
   pub month : ℕ

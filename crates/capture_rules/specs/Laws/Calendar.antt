@@ -16,7 +16,7 @@ use Rattle.capture_rules.specs.Laws.Shape.{both, zeros, time-digits, dec
 
 -- ---- Leap years
 
--- 4 divides the year, and 100 does not, or 400 does
+-- What `leap`, which computes a yes or no, has to mean, as a claim: 4 divides the year; and 100 does not, or 400 does.
 abbrev pub Leap : ℕ → Type 0
 Leap y = (y % 4 ≡ 0) × ((y % 100 ≡ 0 → ⊥) ⊎ (y % 400 ≡ 0))
 
@@ -69,6 +69,7 @@ year-days y = go (leap y) refl
 
 -- ---- The date handed out
 
+-- what is claimed of a date that is handed out
 pub record Real (t : Time) : Type 0 where
   pub year-least : 1 ≤ t .year
   pub year-most : t .year ≤ 9999

@@ -17,7 +17,8 @@ unfolding gcdIn
 one-turn n a zero h = omega arith
 one-turn n a (suc b) h = refl
 
--- What holds of a number and 0, and goes back over a turn, holds of two numbers and what comes of enough turns.
+-- To show `P a b g` of two numbers and their greatest common divisor g: show it of any a with 0, whose divisor is a; and show it of a and b from what it
+-- says after one turn, of b and `a % b`.
 module _
     (P : ℕ → ℕ → ℕ → Type 0)
     (last : (a : ℕ) → P a 0 a)

@@ -5,14 +5,14 @@ use mathlib.Core.Option.{Option, none, some}
 use mathlib.Core.List.{List}
 use lib.ListN.{length}
 use lib.Dec.{T, leb, eqb}
-use Rattle.rules.specs.Doc.Outcomes.{Outcome, refused}
+use Rattle.rules.specs.Doc.Outcomes.{Outcome}
 use Rattle.rules.specs.Doc.Bytes.{numberAt}
 use Rattle.rules.specs.Doc.Endian.{Endian, numberIn}
 use Rattle.rules.specs.Laws.Numbered.{Within, went, row, require-numbered, given-numbered}
 use Rattle.capture_rules.specs.Doc.Header.{orderOf, header}
 use Rattle.capture_rules.specs.Doc.Directory.{ASCII, LONG, SRATIONAL, exifPointer, dateTimeOriginal, exposureBiasValue, Entry, Directory, directory, find, holds, valueOf}
 use Rattle.capture_rules.specs.Doc.Time.{pattern, alike, timeIn, isDate, isClock, time}
-use Rattle.capture_rules.specs.Doc.Capture.{exifAt, dateIn, fractionIn, biasOf, ifThere, biasIn, inOrder, captureIn, captureFrom, capture}
+use Rattle.capture_rules.specs.Doc.Capture.{exifAt, dateIn, fractionIn, entryBias, ifThere, biasIn, inOrder, captureIn, captureFrom, capture}
 
 abbrev pub InBlock : ℕ → Type 0
 InBlock n = T (leb 34 n && leb n 39)
@@ -39,7 +39,7 @@ pointer-numbered e b d =
 
 value-numbered : (b : List ℕ) (n : ℕ) (x : Entry) → Numbered (valueOf b n x)
 unfolding valueOf
-value-numbered b n x = row _ _ (require-numbered (leb (x .value + n) (length b)) 35 tt) (λ u. went)
+value-numbered b n x = row _ _ (require-numbered (leb (x .place + n) (length b)) 35 tt) (λ u. went)
 
 time-numbered : (s : List ℕ) → Numbered (time s)
 unfolding time
@@ -56,8 +56,8 @@ fraction-numbered : (e : Endian) (v : List ℕ) → Numbered (fractionIn e v)
 unfolding fractionIn
 fraction-numbered e v = row _ _ (require-numbered (not (eqb (numberIn e v 4 4) 0)) 39 tt) (λ u. went)
 
-entry-numbered : (e : Endian) (b : List ℕ) (x : Entry) → Numbered (biasOf e b x)
-unfolding biasOf
+entry-numbered : (e : Endian) (b : List ℕ) (x : Entry) → Numbered (entryBias e b x)
+unfolding entryBias
 entry-numbered e b x = row _ _ (require-numbered (holds SRATIONAL 1 x) 38 tt) (λ u. row _ _ (value-numbered b 8 x) (fraction-numbered e))
 
 there-numbered : {A B : Type 0} (f : A → Outcome B) → ((x : A) → Numbered (f x)) → (o : Option A) → Numbered (ifThere f o)
@@ -67,7 +67,7 @@ there-numbered f p (some x) = row _ _ (p x) (λ y. went)
 
 bias-numbered : (e : Endian) (b : List ℕ) (d : Directory) → Numbered (biasIn e b d)
 unfolding biasIn
-bias-numbered e b d = there-numbered (biasOf e b) (entry-numbered e b) (find e b d exposureBiasValue)
+bias-numbered e b d = there-numbered (entryBias e b) (entry-numbered e b) (find e b d exposureBiasValue)
 
 from-numbered : (e : Endian) (b : List ℕ) (d : Directory) → Numbered (captureFrom e b d)
 unfolding captureFrom captureIn inOrder

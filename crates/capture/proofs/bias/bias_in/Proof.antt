@@ -25,8 +25,8 @@ found : (c : tie.After-kind)
     some (entryOf exposureBiasValue (p .0) (p .1 .0) (p .1 .1 .0)) ≡ find (endianOf (a .order)) (a .block .now) (record { from = a .from; count = a .count }) exposureBiasValue
 found c = rw (c .kind .given .1) at (c .before .before .find .ensures)
 
-bias-of-requires : tie.Need-bias-of-requires
-bias-of-requires c κs = search needs
+entry-bias-requires : tie.Need-entry-bias-requires
+entry-bias-requires c κs = search needs
 
 enum-known-fraction : tie.Need-enum-known-fraction
 enum-known-fraction c = search needs
@@ -40,12 +40,12 @@ returns c = bias-missing _ _ _ (rw (c .enum-told .given .1) at (c .before .befor
 returns-2 : tie.Need-returns-2
 returns-2 c =
     let of = c .before .before .before in
-    bias-known _ _ _ _ (found (of .before .before)) (rw (c .before .fraction .given .1) at (of .bias-of .ensures))
+    bias-known _ _ _ _ (found (of .before .before)) (rw (c .before .fraction .given .1) at (of .entry-bias .ensures))
 
 returns-3 : tie.Need-returns-3
 returns-3 c =
     let of = c .before .before .before in
-    bias-refused _ _ _ _ (found (of .before .before)) (rw (c .before .e .given .1) at (of .bias-of .ensures))
+    bias-refused _ _ _ _ (found (of .before .before)) (rw (c .before .e .given .1) at (of .entry-bias .ensures))
 
 pub bias-in-spec : {M : Type 1} → statement M
 bias-in-spec =
@@ -54,7 +54,7 @@ bias-in-spec =
     find-requires
     enum-told
     enum-known-kind
-    bias-of-requires
+    entry-bias-requires
     enum-known-fraction
     enum-known-e
     returns

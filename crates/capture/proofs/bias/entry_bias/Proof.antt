@@ -5,8 +5,8 @@ use lib.ListN.{length}
 use Rattle.tiff.specs.Inside.{is-inside}
 use Rattle.capture.specs.Steps.{bias-other, bias-outside, bias-read}
 use borrow.Author.Needs.{needs}
-use Rattle.capture.proofs.bias.bias_of.Statement.{statement}
-use Rattle.capture.proofs.bias.bias_of.Tie as tie
+use Rattle.capture.proofs.bias.entry_bias.Statement.{statement}
+use Rattle.capture.proofs.bias.entry_bias.Tie as tie
 
 holds-requires : tie.Need-holds-requires
 holds-requires c κs = search needs
@@ -25,7 +25,7 @@ returns-2 c =
 -- the value lies inside
 lies : (c : tie.Else2)
     → let a = c .before .before .before .before .before .args in
-    a .value + 8 ≤ length (a .block .now)
+    a .place + 8 ≤ length (a .block .now)
 lies c = is-inside _ _ (c .before .inside .ensures) (c .if2 .left)
 
 add-fraction-in : tie.Need-add-fraction-in
@@ -49,8 +49,8 @@ returns-3 c =
     bias-read _ _ _ (t .before .holds .ensures) (t .if1 .left) (c .before .before .before .inside .ensures) (c .before .before .if2 .left)
     (c .fraction-in .ensures)
 
-pub bias-of-spec : {M : Type 1} → statement M
-bias-of-spec =
+pub entry-bias-spec : {M : Type 1} → statement M
+entry-bias-spec =
     tie.close
     (tie.spec
     holds-requires
