@@ -1,7 +1,7 @@
 // The lines, as text in a lent buffer. Each function puts its text from a position on, as much as there is room for, and answers the place after it.
 ghost use Prim.Native.Nat.{_≤_};
 ghost use lib.ListN.{length};
-use join::Extracted;
+use output::Extracted;
 
 fn put(part: &[u8], text: &mut [u8], at: usize) -> usize
     requires { ⌜ at ≤ length (now text) ⌝ }

@@ -13,7 +13,7 @@ use Rattle.boxes.specs.declared.level.FileBox.the-variants as f
 use Rattle.boxes.specs.declared.field.Number.{Number}
 use Rattle.boxes.specs.declared.field.Number.the-variants as n
 
--- the table "Numbers given back"
+-- the table "Numbers given back", and the numbers that request three adds to it
 abbrev pub number : Refusal → ℕ
 number r.NotFound = 1
 number r.ImageEnds = 2
@@ -44,6 +44,9 @@ number r.HeaderOffset = 26
 number r.AddressSpace = 27
 number r.NoRoom = 28
 number r.ListingTooLong = 29
+number r.NotJpeg = 31
+number r.NoMarker = 32
+number r.SegmentTooSmall = 33
 
 -- what a header at a position announces, where a cut one is `cut`
 abbrev pub announces : ℕ → ℕ → Header → Outcome Box

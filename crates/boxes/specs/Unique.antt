@@ -1,16 +1,17 @@
 -- No two answers say the same, so each contract of this crate determines its function's answer.
 use mathlib.Core.Path.{_≡_, refl, sym, ap, ap₂, _∙_}
-use Prim.Native.Nat.{ℕ, zero, suc, _+_, _-_, _≤_}
+use Prim.Native.Nat.{ℕ, _+_, _-_, _≤_}
 use native.Mathlib.Omega.{arith}
 use mathlib.Core.Bool.{Bool, true, false, _&&_}
 use mathlib.Core.List.{List, [], _∷_}
-use lib.ListN.{length, getD}
+use lib.ListN.{length}
 use lib.Dec.{T, leb, eqb, leb→le}
 use Rattle.rules.specs.Doc.Outcomes.{if_then_else_, Outcome, fine, refused}
 use Rattle.rules.specs.Doc.Bytes.{sizeOf}
 use Rattle.rules.specs.Cases.{every}
 use Rattle.rules.specs.Doc.Headers.{Box, whole, announced, standing, fileBoxAt}
 use Rattle.rules.specs.Laws.Back.{one}
+use Rattle.rules.specs.Laws.Rows.{by-test}
 use Rattle.boxes.specs.Told.{number, announces, child, fileBox, fieldOf}
 use Rattle.boxes.specs.declared.refusal.Refusal.{Refusal}
 use Rattle.boxes.specs.declared.refusal.Refusal.the-variants as r
@@ -25,7 +26,7 @@ use Rattle.boxes.specs.declared.field.Number.the-variants as n
 
 -- ---- Refusals
 
--- from number 1 on
+-- all of them; there is a gap in their numbers, so a place in the list is not a number
 refusals : List Refusal
 refusals =
     r.NotFound
@@ -57,13 +58,21 @@ refusals =
     ∷ r.AddressSpace
     ∷ r.NoRoom
     ∷ r.ListingTooLong
+    ∷ r.NotJpeg
+    ∷ r.NoMarker
+    ∷ r.SegmentTooSmall
     ∷ []
 
+-- the one of a list with a number
+numbered : ℕ → List Refusal → Refusal
+numbered n [] = r.NotFound
+numbered n (x ∷ xs) = if eqb (number x) n then x else numbered n xs
+
 pub asRefusal : ℕ → Refusal
-asRefusal n = getD refusals (n - 1) r.NotFound
+asRefusal n = numbered n refusals
 
 pub refusal-back : (x : Refusal) → asRefusal (number x) ≡ x
-unfolding asRefusal refusals
+unfolding asRefusal numbered refusals
 refusal-back r.NotFound = refl
 refusal-back r.ImageEnds = refl
 refusal-back r.BoxTooSmall = refl
@@ -93,35 +102,37 @@ refusal-back r.HeaderOffset = refl
 refusal-back r.AddressSpace = refl
 refusal-back r.NoRoom = refl
 refusal-back r.ListingTooLong = refl
+refusal-back r.NotJpeg = refl
+refusal-back r.NoMarker = refl
+refusal-back r.SegmentTooSmall = refl
 
 -- no refusal is numbered 0, as success is
 pub not-done : (x : Refusal) → number x ≡ 0 → ⊥
-unfolding asRefusal refusals
+unfolding asRefusal numbered refusals
 not-done x e =
     let f : number r.NotFound ≡ number x = ap number (ap asRefusal (sym e) ∙ refusal-back x) in
     omega arith
 
--- what holds of each thing in a list holds of the one at a position
-each-at : {A : Type 0} (p : A → Bool) (xs : List A) (i : ℕ) (d : A) → T (every p xs) → T (p d) → T (p (getD xs i d))
-unfolding every
-each-at p [] i d e h = h
-each-at p (x ∷ xs) zero d e h = first (p x) e
+-- what holds of each in a list holds of the one that is found
+found-holds : (p : Refusal → Bool) (n : ℕ) (xs : List Refusal) → T (every p xs) → T (p r.NotFound) → T (p (numbered n xs))
+unfolding numbered every
+found-holds p n [] e h = h
+found-holds p n (x ∷ xs) e h = by-test (λ y. T (p y)) (eqb (number x) n) (λ t. first (p x) e) (λ t. found-holds p n xs (rest (p x) e) h)
   where
     first : (t : Bool) → T (t && every p xs) → T t
     first true e = tt
     first false e = e
-each-at p (x ∷ xs) (suc i) d e h = each-at p xs i d (rest (p x) e) h
-  where
+
     rest : (t : Bool) → T (t && every p xs) → T (every p xs)
     rest true e = e
     rest false e = absurd e
 
--- No refusal is numbered above 29.
-pub number-limit : (x : Refusal) → number x ≤ 29
+-- No refusal is numbered above 33.
+pub number-limit : (x : Refusal) → number x ≤ 33
 unfolding asRefusal refusals every
 number-limit x =
-    let t : T (leb (number (asRefusal (number x))) 29) = each-at (λ (y : Refusal). leb (number y) 29) refusals (number x - 1) r.NotFound tt tt in
-    leb→le (number x) 29 (rw (refusal-back x) at t)
+    let t : T (leb (number (asRefusal (number x))) 33) = found-holds (λ (y : Refusal). leb (number y) 33) (number x) refusals tt tt in
+    leb→le (number x) 33 (rw (refusal-back x) at t)
 
 pub refusal-one : {x y : Refusal} → number x ≡ number y → x ≡ y
 refusal-one {x} {y} e = one number asRefusal refusal-back e refl

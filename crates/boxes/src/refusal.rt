@@ -1,8 +1,9 @@
-// The refusals of extraction and of the listing, and their numbers. Those of a block are in crates/tiff.
+// The refusals of extraction and of the listing, and their numbers: 1 to 29 are document 01's, 31 to 33 are added by request three of document 02, for
+// JPEG. Those of a block are in crates/tiff.
 ghost use mathlib.Core.Path.{_≡_};
 ghost use Rattle.boxes.specs.Told.{number};
 
-// Why there is no answer, with document 01's numbers.
+// Why there is no answer, with document 01's numbers, and from 31 on request three's.
 pub enum Refusal {
     NotFound = 1,
     ImageEnds = 2,
@@ -33,6 +34,9 @@ pub enum Refusal {
     AddressSpace = 27,
     NoRoom = 28,
     ListingTooLong = 29,
+    NotJpeg = 31,
+    NoMarker = 32,
+    SegmentTooSmall = 33,
 }
 
 impl Refusal {

@@ -1,5 +1,5 @@
 -- From extraction to the photo, by what extraction promises alone: `r` is what it answered, `after` the output after it.
-use mathlib.Core.Path.{_≡_, refl, sym, ap, _∙_}
+use mathlib.Core.Path.{_≡_, refl, ap, _∙_}
 use mathlib.Core.List.{List}
 use Prim.Native.Nat.{ℕ, _≤_}
 use native.Mathlib.Omega.{arith}
@@ -7,21 +7,21 @@ use lib.ListN.{length, take, length-append, length-map}
 use borrow.Author.Tests.{ne-eqb}
 use Rattle.rules.specs.Doc.Outcomes.{Outcome, refused}
 use Rattle.rules.specs.Doc.Block.{bytesAt}
-use Rattle.rules.specs.Doc.Answers.{Answer, answer}
+use Rattle.rules.specs.Doc.Answers.{Answer}
 use Rattle.boxes.specs.Told.{number}
 use Rattle.boxes.specs.Unique.{not-done}
 use Rattle.boxes.specs.declared.refusal.Refusal.{Refusal}
-use Rattle.join.specs.Told.{told}
-use Rattle.join.specs.Unique.{output-told}
-use Rattle.join.specs.declared.block.Extracted.{Extracted}
-use Rattle.join.specs.declared.block.Extracted.the-variants.{Done, NoRoom, Refused}
+use Rattle.output.specs.Told.{told}
+use Rattle.output.specs.declared.Extracted.{Extracted}
+use Rattle.output.specs.declared.Extracted.the-variants.{Done, NoRoom, Refused}
 use Rattle.rules.specs.Demands.One.{length-said}
-use Rattle.isobmff.specs.Demands.{success-only-block}
+use Rattle.jpeg_rules.specs.Doc.Photo.{photoAnswer}
+use Rattle.reader.specs.Demands.{output-is, success-only-block}
 use Rattle.capture_rules.specs.Doc.Capture.{Capture, capture, ofAnswer, photo}
 
-module _ (img out after : List ℕ) (r : Extracted) (meets : told r after ≡ answer img out) where
-  pub output-kept : after ≡ answer img out .output
-  output-kept = sym (output-told r after) ∙ ap (λ (a : Answer). a .output) meets
+module _ (img out after : List ℕ) (r : Extracted) (meets : told r after ≡ photoAnswer img out) where
+  pub output-kept : after ≡ photoAnswer img out .output
+  output-kept = output-is img out r after meets
 
   pub photo-refused : {e : Refusal} → r ≡ Refused e → refused (number e) ≡ photo img out
   unfolding photo ofAnswer
@@ -36,7 +36,7 @@ module _ (img out after : List ℕ) (r : Extracted) (meets : told r after ≡ an
     pub block-inside : n ≤ length after
     unfolding bytesAt
     block-inside =
-        let done : told (Done n) after ≡ answer img out = rw f at meets in
+        let done : told (Done n) after ≡ photoAnswer img out = rw f at meets in
         let w = success-only-block img out (Done n) after done refl in
         let size : n ≡ length (w .positions) = ap (λ (a : Answer). a .length) done ∙ length-said img out (w .is-block) in
         rw (w .front) (simp (length-append, length-map) (omega (arith, size)))

@@ -11,33 +11,47 @@ use Rattle.rules.specs.Doc.Text.{ascii}
 use Rattle.rules.specs.Doc.Listing.{newline, listing, printed}
 use Rattle.rules.specs.Unfold.{document}
 use Rattle.rules.specs.Demands.One.{length-limit, number-limit, always-room}
+use Rattle.rules.specs.Laws.Endian.{Bytes}
 use Rattle.rules.specs.Laws.ListingLength.{listing-length}
+use Rattle.jpeg_rules.specs.Doc.Photo.{photoAnswer}
+use Rattle.jpeg_rules.specs.Demands.One.{photo-length, photo-number, photo-room}
 use Rattle.listing.specs.Whole.{too-long}
 use Rattle.coinbarrow.specs.Halves.{unpacked}
 
--- ---- The number that `coinbarrow_exif` gives back
+-- ---- The number that `coinbarrow_exif` or `coinbarrow_photo` gives back
 
-module _ (img out : List ℕ) (r : ℕ) (after : List ℕ) (meets : unpacked r after ≡ answer img out) where
-  upper : r / 2 ^ 32 ≡ answer img out .number
+module _ (d : Answer) (r : ℕ) (after : List ℕ) (meets : unpacked r after ≡ d) where
+  upper : r / 2 ^ 32 ≡ d .number
   upper = ap (λ (a : Answer). a .number) meets
 
-  lower : r % 2 ^ 32 ≡ answer img out .length
+  lower : r % 2 ^ 32 ≡ d .length
   lower = ap (λ (a : Answer). a .length) meets
 
-  -- It is document 01's number times 2^32, plus the length.
-  pub is-sum : r ≡ answer img out .number * 2 ^ 32 + answer img out .length
+  -- It is the answer's number times 2^32, plus the length.
+  pub is-sum : r ≡ d .number * 2 ^ 32 + d .length
   is-sum = omega (arith, upper, lower)
 
-  -- The upper half is at most 28, the lower at most 65,531.
+-- Of HEIF: the upper half is at most 28, the lower at most 65,531; and an output of 65,531 bytes always has room.
+module _ (img out : List ℕ) (r : ℕ) (after : List ℕ) (meets : unpacked r after ≡ answer img out) where
   pub upper-limit : r / 2 ^ 32 ≤ 28
-  upper-limit = omega (arith, upper, number-limit img out)
+  upper-limit = omega (arith, upper (answer img out) r after meets, number-limit img out)
 
   pub lower-limit : r % 2 ^ 32 ≤ 65531
-  lower-limit = omega (arith, lower, length-limit img out)
+  lower-limit = omega (arith, lower (answer img out) r after meets, length-limit img out)
 
-  -- An output of 65,531 bytes always has room.
   pub enough-room : 65531 ≤ length out → r / 2 ^ 32 ≡ 28 → ⊥
-  enough-room h e = always-room img out h (omega (arith, upper))
+  enough-room h e = always-room img out h (omega (arith, upper (answer img out) r after meets))
+
+-- Of HEIF or JPEG: the upper half is at most 33; the rest is the same, of an image that is made of bytes.
+module _ (img out : List ℕ) (r : ℕ) (after : List ℕ) (meets : unpacked r after ≡ photoAnswer img out) where
+  pub photo-upper-limit : r / 2 ^ 32 ≤ 33
+  photo-upper-limit = omega (arith, upper (photoAnswer img out) r after meets, photo-number img out)
+
+  pub photo-lower-limit : Bytes img → r % 2 ^ 32 ≤ 65531
+  photo-lower-limit b = omega (arith, lower (photoAnswer img out) r after meets, photo-length img out b)
+
+  pub photo-enough-room : Bytes img → 65531 ≤ length out → r / 2 ^ 32 ≡ 28 → ⊥
+  photo-enough-room b h e = photo-room img out b h (omega (arith, upper (photoAnswer img out) r after meets))
 
 -- ---- The text that `coinbarrow_list` writes
 

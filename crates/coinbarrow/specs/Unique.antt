@@ -7,14 +7,24 @@ use lib.ListN.{length}
 use Rattle.rules.specs.Doc.Answers.{Answer, answer}
 use Rattle.rules.specs.Doc.Heif.{isHeif}
 use Rattle.rules.specs.Doc.Listing.{listing, printed}
+use Rattle.jpeg_rules.specs.Doc.Photo.{photoAnswer}
 use Rattle.listing.specs.Unique.{list-one as boxes-one}
 use Rattle.coinbarrow.specs.Halves.{unpacked}
 use Rattle.coinbarrow.specs.Callers.{is-sum}
 
+-- a number that says an answer, with the output
+packed-one : (d : Answer) (r s : ℕ) (after after′ : List ℕ) → unpacked r after ≡ d → unpacked s after′ ≡ d → (r ≡ s) × (after ≡ after′)
+packed-one d r s after after′ e f = (is-sum d r after e ∙ sym (is-sum d s after′ f), ap (λ (a : Answer). a .output) (e ∙ sym f))
+
 -- of `coinbarrow_exif`
 pub exif-one : (img out : List ℕ) (r s : ℕ) (after after′ : List ℕ) → unpacked r after ≡ answer img out → unpacked s after′ ≡ answer img out
     → (r ≡ s) × (after ≡ after′)
-exif-one img out r s after after′ e f = (is-sum img out r after e ∙ sym (is-sum img out s after′ f), ap (λ (a : Answer). a .output) (e ∙ sym f))
+exif-one img out = packed-one (answer img out)
+
+-- of `coinbarrow_photo`
+pub photo-one : (img out : List ℕ) (r s : ℕ) (after after′ : List ℕ) → unpacked r after ≡ photoAnswer img out → unpacked s after′ ≡ photoAnswer img out
+    → (r ≡ s) × (after ≡ after′)
+photo-one img out = packed-one (photoAnswer img out)
 
 -- of `coinbarrow_is_heif`
 pub heif-one : (bytes : List ℕ) {x y : Bool} → x ≡ isHeif bytes → y ≡ isHeif bytes → x ≡ y

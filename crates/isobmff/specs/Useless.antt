@@ -10,9 +10,9 @@ use Rattle.rules.specs.Doc.Answers.{answer}
 use Rattle.rules.specs.Unfold.{document}
 use Rattle.rules.specs.Cases.{line, H, fresh}
 use Rattle.boxes.specs.declared.refusal.Refusal.the-variants.{NotFound, NoMatchingEntry}
-use Rattle.join.specs.Told.{told}
-use Rattle.join.specs.declared.block.Extracted.{Extracted}
-use Rattle.join.specs.declared.block.Extracted.the-variants.{Done, NoRoom, Refused}
+use Rattle.output.specs.Told.{told}
+use Rattle.output.specs.declared.Extracted.{Extracted}
+use Rattle.output.specs.declared.Extracted.the-variants.{Done, NoRoom, Refused}
 use Rattle.isobmff.specs.Unique.{attr-one}
 
 -- every call with this image and this output answers x, and leaves `after` in the output

@@ -2,15 +2,15 @@
 ghost use mathlib.Core.Path.{_≡_};
 ghost use Rattle.rules.specs.Doc.Answers.{answer};
 ghost use Rattle.rules.specs.OverBytes.{answerOf, metaBlock};
-ghost use Rattle.join.specs.Told.{told};
+ghost use Rattle.output.specs.Told.{told};
 
 mod meta;
 mod top;
 
-use join::Extracted;
 use meta::Kept;
 use meta::LastBody;
 use meta::parse_meta;
+use output::Extracted;
 use top::Top;
 use top::parse;
 

@@ -7,26 +7,27 @@ use lib.ListN.{length, drop, length-drop, drop-of-length-le}
 use lib.Seq.{sets}
 use lib.Dec.{leb}
 use borrow.Author.Tests.{le-leb, lt-leb}
-use Rattle.rules.specs.Doc.Outcomes.{fine, _>>=_, require, once}
+use Rattle.rules.specs.Doc.Outcomes.{fine, _>>=_, require}
 use Rattle.rules.specs.Doc.Bytes.{numberAt}
 use Rattle.rules.specs.Doc.Block.{blockAfter}
-use Rattle.rules.specs.Doc.Answers.{Answer, handed, answerWith}
+use Rattle.rules.specs.Doc.Answers.{Answer}
 use Rattle.rules.specs.OverBytes.{totalFrom, blockOf, blockFrom, answerOf}
 use Rattle.rules.specs.Laws.Entries.{Chose}
 use Rattle.rules.specs.Laws.Gather.{answer-refused}
 use Rattle.rules.specs.Laws.Places.{lies-inside}
-use Rattle.rules.specs.Laws.Over.{over-room}
 use Rattle.rules.specs.Laws.Totals.{total-is}
 use Rattle.boxes.specs.Told.{number}
 use Rattle.boxes.specs.declared.refusal.Refusal.{Refusal}
 use Rattle.boxes.specs.declared.refusal.Refusal.the-variants.{UnderFour, HeaderOffset}
+use Rattle.output.specs.Told.{told}
+use Rattle.output.specs.Answers.{answer-28, answer-0}
+use Rattle.output.specs.declared.Extracted.the-variants.{Done, NoRoom, Refused}
 use Rattle.locations.specs.Told.{locationIn, extentsOf}
 use Rattle.locations.specs.Located.{extents-count}
 use Rattle.locations.specs.declared.Location.{Location}
-use Rattle.join.specs.Told.{totalOf, told, source, liesBy, joinedOf, blockBy}
+use Rattle.join.specs.Told.{totalOf, source, liesBy, joinedOf, blockBy}
 use Rattle.join.specs.declared.total.Total.{Total}
 use Rattle.join.specs.declared.total.Total.the-variants as total
-use Rattle.join.specs.declared.block.Extracted.the-variants.{Done, NoRoom, Refused}
 
 -- after the last extent there is none left
 pub extents-end : (iloc : List ℕ) (l : Location) (k : ℕ) → Chose iloc (locationIn l) → l .entry .«extent_count» ≤ k → drop k (extentsOf iloc l) ≡ []
@@ -85,9 +86,7 @@ module _ (image idat iloc : List ℕ) (l : Location) (out : List ℕ) where
           block-size = simp length-drop (omega (arith, size-is))
 
           pub block-28 : length out < need → told (NoRoom need) out ≡ joinedAnswer
-          unfolding answerOf answerWith once handed
-          block-28 m = rw (block-is, block-size, lt-leb need (length out) m)
+          block-28 m = rw (block-is, ← block-size) (answer-28 block out (omega (arith, block-size)))
 
           pub block-0 : need ≤ length out → {after : List ℕ} → after ≡ sets out 0 block → told (Done need) after ≡ joinedAnswer
-          unfolding answerOf answerWith once handed
-          block-0 m w = rw (w, block-is, over-room block out (omega (arith, block-size)), block-size, le-leb need (length out) m, block-size)
+          block-0 m w = rw (block-is, ← block-size) (answer-0 block out (omega (arith, block-size)) w)

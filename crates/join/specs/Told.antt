@@ -7,7 +7,6 @@ use Rattle.rules.specs.Doc.Outcomes.{if_then_else_, Outcome, fine, refused}
 use Rattle.rules.specs.Doc.Bytes.{Span}
 use Rattle.rules.specs.Doc.Iloc.{Extent}
 use Rattle.rules.specs.Doc.Join.{lies}
-use Rattle.rules.specs.Doc.Answers.{Answer}
 use Rattle.rules.specs.OverBytes.{partOf, gathered, blockFrom}
 use Rattle.boxes.specs.Told.{number}
 use Rattle.locations.specs.Told.{locationIn, extentsOf}
@@ -16,8 +15,6 @@ use Rattle.join.specs.declared.place.Place.{Place}
 use Rattle.join.specs.declared.place.Place.the-variants as p
 use Rattle.join.specs.declared.total.Total.{Total}
 use Rattle.join.specs.declared.total.Total.the-variants as t
-use Rattle.join.specs.declared.block.Extracted.{Extracted}
-use Rattle.join.specs.declared.block.Extracted.the-variants as e
 
 -- of where an extent lies
 abbrev pub placeOf : Place → Outcome Span
@@ -28,12 +25,6 @@ placeOf (p.Refused e) = refused (number e)
 abbrev pub totalOf : Total → Outcome ℕ
 totalOf (t.Sum n) = fine n
 totalOf (t.Refused e) = refused (number e)
-
--- of extraction, with the output after it
-abbrev pub told : Extracted → List ℕ → Answer
-told (e.Done n) out = record { number = 0; length = n; output = out }
-told (e.NoRoom n) out = record { number = 28; length = n; output = out }
-told (e.Refused r) out = record { number = number r; length = 0; output = out }
 
 -- ---- Of a location whose method is 0 or 1
 

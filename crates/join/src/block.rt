@@ -4,7 +4,8 @@ ghost use lib.ListN.{length};
 ghost use Rattle.rules.specs.OverBytes.{storeOf, chosenBlock, itemBlock, answerOf};
 ghost use Rattle.rules.specs.Laws.Entries.{Chose};
 ghost use Rattle.locations.specs.Told.{locationIn};
-ghost use Rattle.join.specs.Told.{told, source, blockBy};
+ghost use Rattle.output.specs.Told.{told};
+ghost use Rattle.join.specs.Told.{source, blockBy};
 use crate::copy::first_number;
 use crate::copy::gather;
 use crate::total::Total;
@@ -12,13 +13,7 @@ use crate::total::total_size;
 use boxes::Refusal;
 use locations::Iloc;
 use locations::Location;
-
-// The block's length; the length that is needed, where there is no room; or why there is no block.
-pub enum Extracted {
-    Done(usize),
-    NoRoom(usize),
-    Refused(Refusal),
-}
+use output::Extracted;
 
 // How many bytes there are in what the method, 0 or 1, names: the image or `idat`.
 fn source_len(image: &[u8], idat: &[u8], method: u64) -> usize

@@ -1,7 +1,5 @@
 // The joined bytes, straight from the extents to where they go.
 ghost use mathlib.Core.Path.{_≡_};
-ghost use Prim.Native.Nat.{ℕ};
-ghost use mathlib.Core.List.{List, _++_};
 ghost use lib.ListN.{drop};
 ghost use lib.Seq.{sets};
 ghost use Rattle.rules.specs.Doc.Bytes.{numberAt};
@@ -11,24 +9,7 @@ ghost use Rattle.join.specs.Told.{joinedOf};
 use crate::minus;
 use crate::place::extent_part;
 use locations::Location;
-
-// Copies the bytes of `part` from `skip` on to `out` from `at` on, as many as there is room for, and answers the place after the last. Said
-// for whatever follows, so that a caller with several parts needs no sums of lengths.
-fn put(part: &[u8], skip: usize, out: &mut [u8], at: usize) -> usize
-    ensures { λ r. ⌜ ((rest : List ℕ) → sets (now (out .exit)) r rest ≡ sets (now (out .entry)) at (drop skip (now (part .entry)) ++ rest)) ⌝ }
-{
-    let mut i = skip;
-    let mut o = at;
-    while i < part.len() {
-        if out.len() <= o {
-            return o;
-        }
-        out[o] = part[i];
-        i += 1;
-        o += 1;
-    }
-    o
-}
+use output::put;
 
 // Copies the joined bytes from `skip` on to the front of `out`, as many as there is room for.
 pub(crate) fn gather<'a>(

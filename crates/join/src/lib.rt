@@ -4,7 +4,6 @@ mod copy;
 mod place;
 mod total;
 
-pub use block::Extracted;
 pub use block::extract_item;
 ghost use mathlib.Core.Path.{_≡_};
 ghost use Prim.Native.Nat.{_-_};

@@ -11,6 +11,7 @@ pub mod Decision
 -- the boxes of a walk that ended well, in a row; walks without a count of steps, and box by box; the last one kept; where the boxes lie
 pub mod BoxRow
 pub mod Unroll
+pub mod Stops
 pub mod Fold
 pub mod Last
 pub mod Lies
@@ -27,9 +28,11 @@ pub mod Lent
 pub mod Limit
 -- agreement of two images
 pub mod Agreement
+pub mod SameWalks
 pub mod SameBoxes
 -- the numbers that can be given, of any table and of document 01's; the one answer for what is told
 pub mod Numbered
+pub mod Room
 pub mod Refusals
 pub mod Back
 -- numbers as text

@@ -13,15 +13,15 @@ use Rattle.rules.specs.Doc.Iloc.{idSize, sizesOf, baseSizeOf, tableOf, m
 use Rattle.rules.specs.Doc.Join.{moved, movedOption, planOf, plan, byMethod, sourceOf, reach, inImage, inIdat, lies, counted, placed, join, positionsIn, joinedIn, joinedBy, joinedFrom, joined}
 use Rattle.rules.specs.Doc.Block.{bytesAt, firstFour, blockAfter, blockIn, block}
 use Rattle.rules.specs.Doc.Heif.{heifLevel, isHeif}
-use Rattle.rules.specs.Doc.Answers.{handed, answerWith, answer}
-use Rattle.rules.specs.Doc.Consulted.{spanBytes, boxBytes, cutBytes, walkBytes, metaBytes, shift, consulted}
+use Rattle.rules.specs.Doc.Answers.{handed, answerWith, answerBy}
+use Rattle.rules.specs.Doc.Consulted.{endBytes, walkBytes, spanBytes, boxBytes, cutBytes, boxesBytes, metaBytes, shift, consulted}
 use Rattle.rules.specs.Doc.Text.{digit, hex, decimalTo, decimal}
 use Rattle.rules.specs.Doc.Listing.{lineOf, _then_, holders, behind, behindCount, opening, listedAt}
 use Rattle.rules.specs.Doc.Listing.{rowOf, runOf, childrenOf, openBox, listRun, frontText, lineText, lastText, textOf, listing, printed}
 
 unfoldable pub document : Unit {0}
-unfolding handed answerWith answer bytesAt firstFour blockAfter blockIn block numberAt positions bytesIn field sized version metaLevel
-    children bodyIn lastBody allItems wantedItem keptIn kept spanBytes boxBytes cutBytes walkBytes metaBytes shift consulted
+unfolding handed answerWith answerBy bytesAt firstFour blockAfter blockIn block numberAt positions bytesIn field sized version metaLevel
+    children bodyIn lastBody allItems wantedItem keptIn kept endBytes walkBytes spanBytes boxBytes cutBytes boxesBytes metaBytes shift consulted
     brandsFrom brandTest topFits topLevel top stopped headerOf headerAt bodySize boxWith whole skips announced boxAt childAt fileBoxAt
     heifLevel isHeif itemIdSize item itemTest isExif countSize infoCount infoLevel infos infoTest infoBoxes itemIn items idSize
     sizesOf baseSizeOf tableOf methodSize inFile entryAt extentWidth extentAt extentMet extents isWanted entryEnd extentsTest

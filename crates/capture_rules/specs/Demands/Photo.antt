@@ -1,7 +1,7 @@
 -- Of an image: what is said of it is what its block says, so all that is claimed of a block holds. Which numbers refuse it, and how long the line
 -- is. Pictures have no say.
 use mathlib.Core.Path.{_≡_, refl, sym, ap, _∙_}
-use mathlib.Core.Bool.{Bool, true, false, _&&_}
+use mathlib.Core.Bool.{Bool, true, false}
 use mathlib.Core.Logic.{_⊎_, inl, inr, ⊎-elim}
 use mathlib.Core.Option.{some}
 use mathlib.Core.List.{List, [], _∷_, _++_}
@@ -10,20 +10,21 @@ use native.Mathlib.Nat.{le-trans, pos-of-ne-zero}
 use native.Mathlib.Omega.{arith}
 use lib.ListN.{length, take, drop, length-map}
 use lib.Seq.{take-append-seam}
-use lib.Dec.{T, leb, eqb, leb→le, lit≤, lit<}
+use lib.Dec.{leb, eqb, leb→le, lit≤, lit<}
 use borrow.Author.Tests.{le-leb, ne-eqb, eqb-true, eqb-false}
 use Rattle.rules.specs.Doc.Outcomes.{if_then_else_, Outcome, fine, refused, _>>=_, require, once}
 use Rattle.rules.specs.Doc.Bytes.{byteAt}
-use Rattle.rules.specs.Doc.Block.{bytesAt, block}
-use Rattle.rules.specs.Doc.Answers.{handed, answerWith, answer}
-use Rattle.rules.specs.Doc.Consulted.{consulted, Agree}
-use Rattle.rules.specs.Laws.Rows.{apart, bind-fine, bind-known}
+use Rattle.rules.specs.Doc.Block.{bytesAt}
+use Rattle.rules.specs.Doc.Answers.{handed, answerWith, answerBy}
+use Rattle.rules.specs.Doc.Consulted.{Agree}
+use Rattle.rules.specs.Laws.Rows.{apart, both, bind-fine, bind-known}
 use Rattle.rules.specs.Laws.Endian.{Bytes}
 use Rattle.rules.specs.Laws.Numbered.{with-number}
-use Rattle.rules.specs.Laws.Refusals.{Numbered as ExtractionNumbered, block-numbered, not-given}
-use Rattle.rules.specs.Laws.Limit.{block-limit}
-use Rattle.rules.specs.Demands.One.{number-limit}
-use Rattle.rules.specs.Demands.Three.{quiet}
+use Rattle.rules.specs.Laws.Room.{Early}
+use Rattle.jpeg_rules.specs.Doc.Photo.{photoBlock, photoAnswer, photoConsulted}
+use Rattle.jpeg_rules.specs.Laws.Numbers.{photo-early}
+use Rattle.jpeg_rules.specs.Demands.One.{photo-limit, photo-number}
+use Rattle.jpeg_rules.specs.Demands.Three as extraction
 use Rattle.capture_rules.specs.Doc.Header.{Header, header}
 use Rattle.capture_rules.specs.Doc.Fraction.{Fraction}
 use Rattle.capture_rules.specs.Doc.Capture.{Capture, capture, ofAnswer, photo}
@@ -52,10 +53,9 @@ module _ (img out : List ℕ) where
   abbrev pub saidBy : List ℕ → Outcome Capture
   saidBy ps = require (leb (length ps) (length out)) 28 >>= λ u. capture (bytesAt img ps)
 
-  handed-on : (o : Outcome (List ℕ)) → ExtractionNumbered o
-      → ofAnswer (answerWith out (bytesAt img (once (handed (length out)) o)) o) ≡ (o >>= saidBy)
-  unfolding ofAnswer answerWith once handed
-  handed-on (refused n) p = rw (ne-eqb n 0 (λ e. not-given n 0 p e (λ t. t)))
+  handed-on : (o : Outcome (List ℕ)) → Early o → ofAnswer (answerBy o img out) ≡ (o >>= saidBy)
+  unfolding ofAnswer answerBy answerWith once handed
+  handed-on (refused n) (with-number p) = rw (ne-eqb n 0 (p .0))
   handed-on (fine ps) p = go (leb (length ps) (length out))
     where
       written : Bool → List ℕ
@@ -68,18 +68,18 @@ module _ (img out : List ℕ) where
       go false = refl
 
   -- What is said of an image is what its block says, if it has one and there is room for it.
-  pub photo-is : photo img out ≡ (block img >>= saidBy)
-  unfolding photo answer
-  photo-is = handed-on (block img) (block-numbered img)
+  pub photo-is : photo img out ≡ (photoBlock img >>= saidBy)
+  unfolding photo
+  photo-is = handed-on (photoBlock img) (photo-early img)
 
   -- With room for the block, it is what the block says.
-  pub with-room : {ps : List ℕ} → block img ≡ fine ps → length ps ≤ length out → photo img out ≡ capture (bytesAt img ps)
+  pub with-room : {ps : List ℕ} → photoBlock img ≡ fine ps → length ps ≤ length out → photo img out ≡ capture (bytesAt img ps)
   with-room {ps} e h = rw (photo-is, e, le-leb (length ps) (length out) h)
 
   -- Where something is handed out, there is a block that says it: so what is claimed of a block holds of it.
-  pub photo-block : {c : Capture} → photo img out ≡ fine c → (ps : List ℕ) × (block img ≡ fine ps) × (capture (bytesAt img ps) ≡ fine c)
+  pub photo-block : {c : Capture} → photo img out ≡ fine c → (ps : List ℕ) × (photoBlock img ≡ fine ps) × (capture (bytesAt img ps) ≡ fine c)
   photo-block e =
-      let (ps, p, q) = bind-fine (block img) saidBy (sym e ∙ photo-is) in
+      let (ps, p, q) = bind-fine (photoBlock img) saidBy (sym e ∙ photo-is) in
       let (u, r, s) = bind-fine (require (leb (length ps) (length out)) 28) (λ u. capture (bytesAt img ps)) q in
       (ps, sym p, sym s)
 
@@ -89,7 +89,7 @@ module _ (img out : List ℕ) where
 
   -- A bias is a fraction in lowest terms that stands in the block.
   pub photo-lowest : Bytes img → {c : Capture} → photo img out ≡ fine c → {f : Fraction} → c .bias ≡ some f
-      → (ps : List ℕ) × (block img ≡ fine ps) × (h : Header) × (header (bytesAt img ps) ≡ fine h) × InLowestTerms (h .order) (bytesAt img ps) f
+      → (ps : List ℕ) × (photoBlock img ≡ fine ps) × (h : Header) × (header (bytesAt img ps) ≡ fine h) × InLowestTerms (h .order) (bytesAt img ps) f
   photo-lowest bytes e g =
       let (ps, p, q) = photo-block e in
       let (h, r, lowest) = bias-lowest (bytesAt img ps) q (bytes-of-block img ps bytes) g in
@@ -102,25 +102,25 @@ module _ (img out : List ℕ) where
 -- ---- The output buffer
 
 -- A buffer of 65,531 bytes or more has room for every block: how long it is and what stands in it have no say.
-pub any-large-buffer : (img out more : List ℕ) → 65531 ≤ length out → 65531 ≤ length more → photo img out ≡ photo img more
-any-large-buffer img out more h k = photo-is img out ∙ (bind-known (block img) same ∙ sym (photo-is img more))
+pub any-large-buffer : (img out more : List ℕ) → Bytes img → 65531 ≤ length out → 65531 ≤ length more → photo img out ≡ photo img more
+any-large-buffer img out more b h k = photo-is img out ∙ (bind-known (photoBlock img) same ∙ sym (photo-is img more))
   where
-    same : (ps : List ℕ) → block img ≡ fine ps → saidBy img out ps ≡ saidBy img more ps
+    same : (ps : List ℕ) → photoBlock img ≡ fine ps → saidBy img out ps ≡ saidBy img more ps
     same ps e =
-        let l = block-limit img e in
+        let l = photo-limit img b e in
         rw (le-leb (length ps) (length out) (le-trans l h), le-leb (length ps) (length more) (le-trans l k))
 
 -- ---- Refusals
 
--- the number of extraction, from 1 to 28
+-- the number of extraction, from 1 to 33
 pub record ByExtraction (img out : List ℕ) (n : ℕ) : Type 0 where
-  pub number : answer img out .number ≡ n
+  pub number : photoAnswer img out .number ≡ n
   pub least : 1 ≤ n
-  pub most : n ≤ 28
+  pub most : n ≤ 33
 
 -- extraction answered 0, and the number is from 34 to 39
 pub record ByBlock (img out : List ℕ) (n : ℕ) : Type 0 where
-  pub number : answer img out .number ≡ 0
+  pub number : photoAnswer img out .number ≡ 0
   pub least : 34 ≤ n
   pub most : n ≤ 39
 
@@ -130,9 +130,6 @@ same-number e = cc
 block-refusal : (b : List ℕ) {n : ℕ} → capture b ≡ refused n → (34 ≤ n) × (n ≤ 39)
 block-refusal b e = go (capture b) e (capture-numbered b)
   where
-    both : (p q : Bool) → T (p && q) → T p × T q
-    both true q t = (tt, t)
-
     go : (o : Outcome Capture) {n : ℕ} → o ≡ refused n → Numbered o → (34 ≤ n) × (n ≤ 39)
     go (fine c) e p = absurd (apart e)
     go (refused m) e (with-number t) =
@@ -141,23 +138,23 @@ block-refusal b e = go (capture b) e (capture-numbered b)
 
 module _ (img out : List ℕ) where
   -- A number of extraction other than 0 refuses the image.
-  pub extraction-refuses : (answer img out .number ≡ 0 → ⊥) → photo img out ≡ refused (answer img out .number)
+  pub extraction-refuses : (photoAnswer img out .number ≡ 0 → ⊥) → photo img out ≡ refused (photoAnswer img out .number)
   unfolding photo ofAnswer
-  extraction-refuses h = rw (ne-eqb (answer img out .number) 0 h)
+  extraction-refuses h = rw (ne-eqb (photoAnswer img out .number) 0 h)
 
   -- By the number it can be told whether extraction refused the image or its block was refused.
   pub refused-by : {n : ℕ} → photo img out ≡ refused n → ByExtraction img out n ⊎ ByBlock img out n
   unfolding photo ofAnswer
-  refused-by {n} e = go (eqb (answer img out .number) 0) refl
+  refused-by {n} e = go (eqb (photoAnswer img out .number) 0) refl
     where
-      go : (t : Bool) → eqb (answer img out .number) 0 ≡ t → ByExtraction img out n ⊎ ByBlock img out n
+      go : (t : Bool) → eqb (photoAnswer img out .number) 0 ≡ t → ByExtraction img out n ⊎ ByBlock img out n
       go true f =
-          let l = block-refusal (take (answer img out .length) (answer img out .output)) (rw f at e) in
-          inr (record { number = eqb-true (answer img out .number) 0 f; least = l .0; most = l .1 })
+          let l = block-refusal (take (photoAnswer img out .length) (photoAnswer img out .output)) (rw f at e) in
+          inr (record { number = eqb-true (photoAnswer img out .number) 0 f; least = l .0; most = l .1 })
       go false f =
-          let z : answer img out .number ≡ 0 → ⊥ = eqb-false (answer img out .number) 0 f in
-          let same : answer img out .number ≡ n = same-number (sym (extraction-refuses z) ∙ e) in
-          inl (record { number = same; least = rw (← same) (pos-of-ne-zero z); most = rw (← same) (number-limit img out) })
+          let z : photoAnswer img out .number ≡ 0 → ⊥ = eqb-false (photoAnswer img out .number) 0 f in
+          let same : photoAnswer img out .number ≡ n = same-number (sym (extraction-refuses z) ∙ e) in
+          inl (record { number = same; least = rw (← same) (pos-of-ne-zero z); most = rw (← same) (photo-number img out) })
 
 -- ---- The line
 
@@ -174,6 +171,6 @@ line-limit img out = go (photo img out) refl
 -- ---- Bytes consulted
 
 -- Demand 3: pictures have no say. Of two images of one length that agree on the bytes consulted for the first, the same is said.
-pub photo-quiet : (a b out : List ℕ) → length a ≡ length b → Agree a b (consulted a (length out)) → photo a out ≡ photo b out
+pub photo-quiet : (a b out : List ℕ) → length a ≡ length b → Agree a b (photoConsulted a (length out)) → photo a out ≡ photo b out
 unfolding photo
-photo-quiet a b out e g = ap ofAnswer (quiet a b out e g)
+photo-quiet a b out e g = ap ofAnswer (extraction.photo-quiet a b e out g)

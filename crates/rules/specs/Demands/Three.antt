@@ -19,14 +19,14 @@ use Rattle.rules.specs.Doc.Children.{metaLevel, children, allItems, want
 use Rattle.rules.specs.Doc.Iinf.{items}
 use Rattle.rules.specs.Doc.Join.{Plan, planOf, plan, joinedBy, joinedFrom, joined}
 use Rattle.rules.specs.Doc.Block.{bytesAt, firstFour, blockAfter, blockIn, block}
-use Rattle.rules.specs.Doc.Answers.{handed, answerWith, answer}
-use Rattle.rules.specs.Doc.Consulted.{spanBytes, boxBytes, cutBytes, walkBytes, metaBytes, shift, consulted, Agree}
+use Rattle.rules.specs.Doc.Answers.{handed, answerWith, answerBy, answer}
+use Rattle.rules.specs.Doc.Consulted.{endBytes, walkBytes, spanBytes, boxBytes, cutBytes, boxesBytes, metaBytes, shift, consulted, Agree}
 use Rattle.rules.specs.Laws.Agreement.{agree-left, agree-right, range-of, number-same, part-at, bytes-same, once-same}
 use Rattle.rules.specs.Laws.SameBoxes.{boxes-same, opened-same}
 
 -- ---- Steps 1 and 2
 
-top-same : (a b : List ℕ) → length a ≡ length b → Agree a b (walkBytes topLevel (length a) (top a)) → opened a ≡ opened b
+top-same : (a b : List ℕ) → length a ≡ length b → Agree a b (boxesBytes topLevel (length a) (top a)) → opened a ≡ opened b
 unfolding opened top
 top-same a b e g = rw (boxes-same topLevel a b 0 e g, e)
 
@@ -48,23 +48,23 @@ module _ (a b : List ℕ) (e : length a ≡ length b) where
   unfolding allItems metaLevel inside
   items-same bs g = opened-same metaLevel a b items e bs g
 
-  children-same : Agree a b (walkBytes metaLevel (length a) (children a)) → keptIn a (children a) ≡ keptIn b (children b)
-  unfolding children keptIn wantedItem walkBytes
+  children-same : Agree a b (boxesBytes metaLevel (length a) (children a)) → keptIn a (children a) ≡ keptIn b (children b)
+  unfolding children keptIn wantedItem boxesBytes walkBytes
   children-same g =
-      rw (items-same (children a .list) (agree-left a b (each (boxBytes metaLevel (length a)) (children a .list)) (cutBytes (length a) (children a .end)) g))
+      rw (items-same (children a .list) (agree-left a b (each (boxBytes metaLevel (length a)) (children a .list)) (endBytes (cutBytes (length a)) (children a .end)) g))
       (ap (keptIn b) (boxes-same metaLevel a b 4 e g))
 
-  kept-same : Agree a b (positions 0 (min 4 (length a))) → Agree a b (once (λ u. walkBytes metaLevel (length a) (children a)) (metaTest a)) → kept a ≡ kept b
+  kept-same : Agree a b (positions 0 (min 4 (length a))) → Agree a b (once (λ u. boxesBytes metaLevel (length a) (children a)) (metaTest a)) → kept a ≡ kept b
   unfolding kept metaTest
   kept-same g w =
-      once-same a b (λ u. walkBytes metaLevel (length a) (children a)) (λ u. keptIn a (children a)) (λ u. keptIn b (children b))
+      once-same a b (λ u. boxesBytes metaLevel (length a) (children a)) (λ u. keptIn a (children a)) (λ u. keptIn b (children b))
       (λ u. children-same) (metaTest a) (metaTest b) w (rw (version-same g))
 
   plan-same : (origin : ℕ) → Agree a b (metaBytes a) → plan origin a ≡ plan origin b
   unfolding plan metaBytes planOf
   plan-same origin g =
       let p : List ℕ = positions 0 (min 4 (length a)) in
-      let q : List ℕ = once (λ u. walkBytes metaLevel (length a) (children a)) (metaTest a) in
+      let q : List ℕ = once (λ u. boxesBytes metaLevel (length a) (children a)) (metaTest a) in
       let r : List ℕ = once (λ k. spanBytes (length a) (k .iloc)) (kept a) in
       let h : Agree a b (q ++ r) = agree-right a b p (q ++ r) g in
       once-same a b (λ k. spanBytes (length a) (k .iloc)) (planOf origin a) (planOf origin b) (λ k t. rw (bytes-same a b (k .iloc) e t))
@@ -109,7 +109,7 @@ from-same a b m e g =
     (plan-same (partIn a b p fit a) (partIn a b p fit b) (parts-length a b p fit e) (p .from) (shift-same a b p fit (metaBytes (partIn a b p fit a)) g))
     ∙ ap (λ (n : ℕ). plan (p .from) (if leb (p .to) n then part b (p .from) (sizeOf p) else []) >>= joinedBy n) e
 
-joined-same : (a b : List ℕ) → length a ≡ length b → Agree a b (walkBytes topLevel (length a) (top a))
+joined-same : (a b : List ℕ) → length a ≡ length b → Agree a b (boxesBytes topLevel (length a) (top a))
     → Agree a b (once (λ m. shift (m .body .from) (metaBytes (bytesIn a (m .body)))) (opened a)) → joined a ≡ joined b
 unfolding joined
 joined-same a b e g h =
@@ -123,11 +123,18 @@ unfolding bytesAt
 at-same a b [] g = refl
 at-same a b (i ∷ ps) g = ap₂ (λ (x : ℕ) (xs : List ℕ). x ∷ xs) (g .0) (at-same a b ps (g .1))
 
+-- Of images with the same block, by agreement on those of its bytes that are handed out.
+pub answers-same : (a b out : List ℕ) {o p : Outcome (List ℕ)} → Agree a b (once (handed (length out)) o) → o ≡ p → answerBy o a out ≡ answerBy p b out
+unfolding answerBy
+answers-same a b out {o} g k =
+    ap (λ (bs : List ℕ). answerWith out bs o) (at-same a b (once (handed (length out)) o) g)
+    ∙ ap (λ (q : Outcome (List ℕ)). answerWith out (bytesAt b (once (handed (length out)) q)) q) k
+
 -- Equal lengths, equal output buffers, agreement on the bytes consulted for the first: the same number, length and output.
 pub quiet : (a b out : List ℕ) → length a ≡ length b → Agree a b (consulted a (length out)) → answer a out ≡ answer b out
-unfolding answer consulted block blockIn
+unfolding consulted block blockIn
 quiet a b out e g =
-    let p : List ℕ = walkBytes topLevel (length a) (top a) in
+    let p : List ℕ = boxesBytes topLevel (length a) (top a) in
     let q : List ℕ = once (λ m. shift (m .body .from) (metaBytes (bytesIn a (m .body)))) (opened a) in
     let r : List ℕ = once firstFour (joined a) in
     let s : List ℕ = once (handed (length out)) (block a) in
@@ -137,5 +144,4 @@ quiet a b out e g =
     let k : block a ≡ block b
     = once-same a b firstFour (blockIn a) (blockIn b) (λ ps t. ap (λ (bs : List ℕ). blockAfter (numberAt bs 0 4) ps) (at-same a b (firstFour ps) t))
     (joined a) (joined b) (agree-left a b r s g₂) j in
-    ap (λ (bs : List ℕ). answerWith out bs (block a)) (at-same a b s (agree-right a b r s g₂))
-    ∙ ap (λ (o : Outcome (List ℕ)). answerWith out (bytesAt b (once (handed (length out)) o)) o) k
+    answers-same a b out (agree-right a b r s g₂) k

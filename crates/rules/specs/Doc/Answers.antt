@@ -23,6 +23,10 @@ unfoldable pub answerWith : List ℕ → List ℕ → Outcome (List ℕ) → Ans
 answerWith out bytes (refused n) = record { number = n; length = 0; output = out }
 answerWith out bytes (fine ps) = record { number = if leb (length ps) (length out) then 0 else 28; length = length ps; output = bytes ++ drop (length bytes) out }
 
+-- the answer for an image with that block, or that refusal of one, and an output buffer
+unfoldable pub answerBy : Outcome (List ℕ) → List ℕ → List ℕ → Answer
+answerBy b img out = answerWith out (bytesAt img (once (handed (length out)) b)) b
+
 -- the answer for an image and an output buffer
-unfoldable pub answer : List ℕ → List ℕ → Answer
-answer img out = answerWith out (bytesAt img (once (handed (length out)) (block img))) (block img)
+abbrev pub answer : List ℕ → List ℕ → Answer
+answer img out = answerBy (block img) img out

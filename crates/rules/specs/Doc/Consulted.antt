@@ -17,6 +17,21 @@ use Rattle.rules.specs.Doc.Join.{joined}
 use Rattle.rules.specs.Doc.Block.{firstFour, block}
 use Rattle.rules.specs.Doc.Answers.{handed}
 
+-- ---- Of any walk
+
+-- how a walk ended: where nothing whole stands, what `cut` says of that position
+unfoldable pub endBytes : {A : Type 0} → (ℕ → List ℕ) → End A → List ℕ
+endBytes cut ended = []
+endBytes cut (cutAt k at) = cut at
+endBytes cut (refusedAt k x) = []
+endBytes cut (stoppedAt x) = []
+
+-- what `thing` says of each thing walked, and how the walk ended
+unfoldable pub walkBytes : {A : Type 0} → (A → List ℕ) → (ℕ → List ℕ) → Walk A → List ℕ
+walkBytes thing cut w = each thing (w .list) ++ endBytes cut (w .end)
+
+-- ---- Of boxes
+
 -- Of a body that doesn't fit into n bytes, nothing counts.
 unfoldable pub spanBytes : ℕ → Span → List ℕ
 spanBytes n p = if leb (p .to) n then positions (p .from) (sizeOf p) else []
@@ -26,22 +41,21 @@ unfoldable pub boxBytes : Level → ℕ → Box → List ℕ
 boxBytes l n b = positions (b .start) (b .body .from - b .start) ++ (if l .opens (b .kind) then spanBytes n (b .body) else [])
 
 -- Of a header that is cut, the bytes present count.
-unfoldable pub cutBytes : ℕ → End Box → List ℕ
-cutBytes n ended = []
-cutBytes n (cutAt k at) = positions at (n - at)
-cutBytes n (refusedAt k b) = []
-cutBytes n (stoppedAt b) = []
+unfoldable pub cutBytes : ℕ → ℕ → List ℕ
+cutBytes n at = positions at (n - at)
 
 -- of the boxes walked at a level
-unfoldable pub walkBytes : Level → ℕ → Walk Box → List ℕ
-walkBytes l n w = each (boxBytes l n) (w .list) ++ cutBytes n (w .end)
+unfoldable pub boxesBytes : Level → ℕ → Walk Box → List ℕ
+boxesBytes l n w = walkBytes (boxBytes l n) (cutBytes n) w
+
+-- ---- Of an image
 
 -- Of the body of `meta`: its four version bytes, or those present; the headers of the children walked and the bodies of the `iinf` walked;
 -- once step 7 is reached, the body of the last `iloc`.
 unfoldable pub metaBytes : List ℕ → List ℕ
 metaBytes body =
     positions 0 (min 4 (length body))
-    ++ (once (λ u. walkBytes metaLevel (length body) (children body)) (metaTest body)
+    ++ (once (λ u. boxesBytes metaLevel (length body) (children body)) (metaTest body)
     ++ once (λ k. spanBytes (length body) (k .iloc)) (kept body))
 
 -- positions in a part that begins at k
@@ -54,7 +68,7 @@ shift k (i ∷ ps) = (k + i) ∷ shift k ps
 -- and `room`.
 unfoldable pub consulted : List ℕ → ℕ → List ℕ
 consulted img room =
-    walkBytes topLevel (length img) (top img)
+    boxesBytes topLevel (length img) (top img)
     ++ (once (λ m. shift (m .body .from) (metaBytes (bytesIn img (m .body)))) (opened img)
     ++ (once firstFour (joined img)
     ++ once (handed room) (block img)))

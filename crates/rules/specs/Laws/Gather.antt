@@ -15,7 +15,7 @@ use Rattle.rules.specs.Doc.Meta.{opened}
 use Rattle.rules.specs.Doc.Iloc.{Extent}
 use Rattle.rules.specs.Doc.Join.{Plan, plan, sourceOf, lies, counted, placed, join, positionsIn, joinedIn, joinedBy, joinedFrom, joined}
 use Rattle.rules.specs.Doc.Block.{bytesAt, firstFour, blockAfter, blockIn, block}
-use Rattle.rules.specs.Doc.Answers.{Answer, handed, answerWith, answer}
+use Rattle.rules.specs.Doc.Answers.{Answer, handed, answerWith, answerBy, answer}
 use Rattle.rules.specs.OverBytes.{partOf, gathered, added, totalFrom, blockOf, blockFrom, blockBytes, answerOf, refusal}
 use Rattle.rules.specs.Laws.Agreement.{part-at}
 use Rattle.rules.specs.Laws.Numbers.{bytes-in}
@@ -49,7 +49,7 @@ abbrev StandsFrom : List ℕ → ℕ → List ℕ → Type 0
 StandsFrom img origin s = (i : ℕ) → i < length s → byteAt s i ≡ byteAt img (origin + i)
 
 module _ (img : List ℕ) (source : Span) (s : List ℕ) (stands : StandsFrom img (source .from) s) where
-  positions-bytes : (from n : ℕ) → from + n ≤ length s → bytesAt img (positions (source .from + from) n) ≡ part s from n
+  pub positions-bytes : (from n : ℕ) → from + n ≤ length s → bytesAt img (positions (source .from + from) n) ≡ part s from n
   unfolding bytesAt positions
   positions-bytes from zero h = refl
   positions-bytes from (suc n) h =
@@ -161,8 +161,9 @@ module _ (img : List ℕ) where
 
   -- ---- The answer
 
-  answer-with : (out : List ℕ) (b : Outcome (List ℕ)) → answerWith out (bytesAt img (once (handed (length out)) b)) b ≡ answerOf out (onFine (bytesAt img) b)
-  unfolding answerOf answerWith once handed bytesAt
+  -- an answer over positions is that over bytes
+  pub answer-with : (out : List ℕ) (b : Outcome (List ℕ)) → answerBy b img out ≡ answerOf out (onFine (bytesAt img) b)
+  unfolding answerBy answerOf answerWith once handed bytesAt
   answer-with out (refused n) = refl
   answer-with out (fine ps) = rw (length-map ps (byteAt img)) (go (leb (length ps) (length out)))
     where
@@ -172,10 +173,6 @@ module _ (img : List ℕ) where
       go : (t : Bool) → said t (map (byteAt img) (if t then ps else [])) ≡ said t (if t then map (byteAt img) ps else [])
       go true = refl
       go false = refl
-
-  answer-bytes : (out : List ℕ) → answer img out ≡ answerOf out (onFine (bytesAt img) (block img))
-  unfolding answer
-  answer-bytes out = answer-with out (block img)
 
   -- ---- From the image on
 
@@ -199,4 +196,4 @@ module _ (img : List ℕ) where
 
   -- Document 01's answer is that of the joined bytes.
   pub answer-gathered : (out : List ℕ) → answer img out ≡ answerOf out (blockBytes img)
-  answer-gathered out = answer-bytes out ∙ ap (answerOf out) block-gathered
+  answer-gathered out = answer-with out (block img) ∙ ap (answerOf out) block-gathered

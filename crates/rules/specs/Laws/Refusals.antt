@@ -1,17 +1,15 @@
 -- Every step before the room refuses with a number from 1 to 27. Steps 7 to 10 are gone through over bytes; what holds there holds over positions.
-use mathlib.Core.Path.{_≡_, refl, sym, subst}
-use Prim.Native.Nat.{ℕ, zero, suc, _+_, _-_, _/_, _%_, _^_, _≤_, _<_}
-use native.Mathlib.Omega.{arith}
-use mathlib.Core.Bool.{Bool, true, false, _&&_, _||_}
+use mathlib.Core.Path.{_≡_, sym, subst}
+use Prim.Native.Nat.{ℕ, _+_, _-_, _/_, _%_, _^_, _≤_}
+use mathlib.Core.Bool.{Bool, _&&_, _||_}
 use mathlib.Core.Option.{Option, none, some}
 use mathlib.Core.List.{List, [], _∷_}
 use lib.ListN.{length}
-use lib.Dec.{T, leb, ltb, eqb}
-use borrow.Author.Tests.{leb-true, leb-false}
-use Rattle.rules.specs.Doc.Outcomes.{if_then_else_, Outcome, fine, refused, _>>=_}
+use lib.Dec.{T, leb, ltb, eqb, leb→le}
+use Rattle.rules.specs.Doc.Outcomes.{Outcome, fine, refused, _>>=_}
 use Rattle.rules.specs.Doc.Lists.{any, only, lastOf}
 use Rattle.rules.specs.Doc.Bytes.{Span, sizeOf, bytesIn, field, sized, version}
-use Rattle.rules.specs.Doc.Walks.{Then, onward, halt, Step, over, cut, met, End, ended, cutAt, refusedAt, stoppedAt, Walk, bare, walked, judged, after, run, outcome}
+use Rattle.rules.specs.Doc.Walks.{over, End, ended, cutAt, refusedAt, stoppedAt}
 use Rattle.rules.specs.Doc.Headers.{ftyp, meta, iinf, infe, iloc, Header, headerAt, bodySize, Box, boxWith, isKind, is, addressable, whole, skips, announced, boxAt, childAt}
 use Rattle.rules.specs.Doc.Levels.{Level, tested, said, boxStep, levelStep, boxes, countedBoxes, inside}
 use Rattle.rules.specs.Doc.Ftyp.{known, brandsFrom, brandTest, topFits, topLevel, top, stopped}
@@ -21,11 +19,11 @@ use Rattle.rules.specs.Doc.Iinf.{itemIdSize, item, itemTest, countSize, 
 use Rattle.rules.specs.Doc.Iloc.{Sizes, Table, idSize, tableOf, inFile, Entry, entryAt, Extent, extentAt, extentMet, extents, isWanted, entryEnd, extentsTest, entryNext, entryMet, entries, chosenIn, chosen}
 use Rattle.rules.specs.Doc.Join.{reach, inImage, inIdat, lies, byMethod}
 use Rattle.rules.specs.Doc.Block.{bytesAt, blockAfter, block}
-use Rattle.rules.specs.Laws.Rows.{by-test}
-use Rattle.rules.specs.Laws.Numbered.{Within, went, with-number, row, require-numbered, given-numbered, either}
+use Rattle.rules.specs.Laws.Rows.{both, by-test}
+use Rattle.rules.specs.Laws.Numbered.{Within, went, with-number, row, require-numbered, given-numbered, either, within-larger, WithinStep, at-end, at-cut, at-thing, WithinEnd, in-cut, in-thing, run-numbered, outcome-numbered}
+use Rattle.rules.specs.Laws.Room.{NeitherNumber, Early}
 use Rattle.rules.specs.Laws.Gather.{onFine}
 use Rattle.rules.specs.Laws.Lent.{block-lent}
-use Rattle.rules.specs.Doc.Answers.{answerWith}
 use Rattle.rules.specs.OverBytes.{metaBlock, keptBlock, added, totalFrom, blockOf, blockFrom, chosenBlock, itemBlock}
 
 abbrev pub InTable : ℕ → Type 0
@@ -64,45 +62,6 @@ child-numbered s at =
     row _ _ (row _ _ (given-numbered (headerAt s at) 3 tt) (λ h. row _ _ (size-numbered (length s) h) (λ size. went)))
     (λ b. row _ _ (whole-numbered 3 (length s) b tt) (λ u. went))
 
--- ---- Walks
-
-data NumberedStep {A : Type 0} : Step A → Type 0 where
-  at-end : NumberedStep over
-  at-cut : {n : ℕ} → InTable n → NumberedStep (cut n)
-  at-thing : {x : A} {v : Outcome Then} → Numbered v → NumberedStep (met x v)
-
-data NumberedEnd {A : Type 0} : End A → Type 0 where
-  in-end : NumberedEnd ended
-  in-cut : {n at : ℕ} → InTable n → NumberedEnd (cutAt n at)
-  in-thing : {n : ℕ} {x : A} → InTable n → NumberedEnd (refusedAt n x)
-  in-stop : {x : A} → NumberedEnd (stoppedAt x)
-
-judged-numbered : {A : Type 0} (x : A) (v : Outcome Then) (go : ℕ → Walk A) → Numbered v → ((q : ℕ) → NumberedEnd (go q .end))
-    → NumberedEnd (judged x v go .end)
-unfolding judged bare
-judged-numbered x (fine (onward next)) go p q = q next
-judged-numbered x (fine halt) go p q = in-stop
-judged-numbered x (refused n) go (with-number p) q = in-thing p
-
-after-numbered : {A : Type 0} (at : ℕ) (st : Step A) (go : ℕ → Walk A) → NumberedStep st → ((q : ℕ) → NumberedEnd (go q .end))
-    → NumberedEnd (after at st go .end)
-unfolding after walked bare
-after-numbered at over go p q = in-end
-after-numbered at (cut n) go (at-cut p) q = in-cut p
-after-numbered at (met x v) go (at-thing p) q = judged-numbered x v go p q
-
-run-numbered : {A : Type 0} (step : ℕ → Step A) → ((at : ℕ) → NumberedStep (step at)) → (n at : ℕ) → NumberedEnd (run step n at .end)
-unfolding run bare
-run-numbered step p zero at = in-end
-run-numbered step p (suc n) at = after-numbered at (step at) (run step n) (p at) (run-numbered step p n)
-
-outcome-numbered : {A : Type 0} (e : End A) → NumberedEnd e → Numbered (outcome e)
-unfolding outcome
-outcome-numbered ended p = went
-outcome-numbered (cutAt n at) (in-cut p) = with-number p
-outcome-numbered (refusedAt n x) (in-thing p) = with-number p
-outcome-numbered (stoppedAt x) p = went
-
 -- ---- Levels
 
 record NumberedLevel (l : Level) : Type 0 where
@@ -115,20 +74,20 @@ module _ (l : Level) (p : NumberedLevel l) (s : List ℕ) where
   unfolding said tested
   said-numbered b = row _ _ (p .fits (length s) b) (λ u. row _ _ (either (l .opens (b .kind)) _ _ (p .test (bytesIn s (b .body))) went) (λ v. went))
 
-  box-numbered : (o : Option Header) → NumberedStep (boxStep l s o)
+  box-numbered : (o : Option Header) → WithinStep InTable (boxStep l s o)
   unfolding boxStep
   box-numbered none = at-cut (p .cutNumber)
   box-numbered (some h) = at-thing (row _ _ (size-numbered (length s) h) (λ size. said-numbered (boxWith h size)))
 
-  level-numbered : (at : ℕ) → NumberedStep (levelStep l s at)
+  level-numbered : (at : ℕ) → WithinStep InTable (levelStep l s at)
   unfolding levelStep
-  level-numbered at = by-test NumberedStep (leb (length s) at) (λ e. at-end) (λ e. box-numbered (headerAt s at))
+  level-numbered at = by-test (WithinStep InTable) (leb (length s) at) (λ e. at-end) (λ e. box-numbered (headerAt s at))
 
-  boxes-numbered : (at : ℕ) → NumberedEnd (boxes l s at .end)
+  boxes-numbered : (at : ℕ) → WithinEnd InTable (boxes l s at .end)
   unfolding boxes
   boxes-numbered at = run-numbered (levelStep l s) level-numbered (length s) at
 
-  counted-numbered : (n at : ℕ) → NumberedEnd (countedBoxes l s n at .end)
+  counted-numbered : (n at : ℕ) → WithinEnd InTable (countedBoxes l s n at .end)
   unfolding countedBoxes
   counted-numbered n at = run-numbered (λ at. boxStep l s (headerAt s at)) (λ at. box-numbered (headerAt s at)) n at
 
@@ -154,7 +113,7 @@ top-numbered = record {
   test = brand-numbered;
 }
 
-stopped-numbered : (e : End Box) → NumberedEnd e → Numbered (stopped e)
+stopped-numbered : (e : End Box) → WithinEnd InTable e → Numbered (stopped e)
 unfolding stopped
 stopped-numbered ended p = with-number tt
 stopped-numbered (cutAt n at) (in-cut p) = with-number p
@@ -218,11 +177,11 @@ unfolding extentAt
 extent-numbered z body at =
     row _ _ (sized-numbered body at (z .index) 12 tt) (λ i. row _ _ (sized-numbered body _ (z .offset) 13 tt) (λ o. row _ _ (sized-numbered body _ (z .length) 14 tt) (λ l. went)))
 
-extents-numbered : (z : Sizes) (body : List ℕ) (e : Entry) → NumberedEnd (extents z body e .end)
+extents-numbered : (z : Sizes) (body : List ℕ) (e : Entry) → WithinEnd InTable (extents z body e .end)
 unfolding extents extentMet
 extents-numbered z body e = run-numbered _ (λ at. go _ (extentAt z body at) (extent-numbered z body at)) (e .count) (e .from)
   where
-    go : (next : ℕ) (o : Outcome Extent) → Numbered o → NumberedStep (extentMet next o)
+    go : (next : ℕ) (o : Outcome Extent) → Numbered o → WithinStep InTable (extentMet next o)
     go next (fine x) p = at-thing went
     go next (refused n) (with-number p) = at-cut p
 
@@ -231,11 +190,11 @@ unfolding entryNext extentsTest
 next-numbered t body wanted e =
     row _ _ (either (isWanted wanted e) _ _ (outcome-numbered _ (extents-numbered (t .sizes) body e)) (require-numbered (leb (entryEnd t e) (length body)) 3 tt)) (λ u. went)
 
-entries-numbered : (t : Table) (body : List ℕ) (wanted : ℕ) → NumberedEnd (entries t body wanted .end)
+entries-numbered : (t : Table) (body : List ℕ) (wanted : ℕ) → WithinEnd InTable (entries t body wanted .end)
 unfolding entries entryMet
 entries-numbered t body wanted = run-numbered _ (λ at. go (entryAt t body at) (entry-numbered t body at)) (t .count) (t .from)
   where
-    go : (o : Outcome Entry) → Numbered o → NumberedStep (entryMet t body wanted o)
+    go : (o : Outcome Entry) → Numbered o → WithinStep InTable (entryMet t body wanted o)
     go (fine e) p = at-thing (row _ _ (next-numbered t body wanted e) (λ next. went))
     go (refused n) (with-number p) = at-cut p
 
@@ -306,18 +265,18 @@ pub not-given : (n k : ℕ) → Numbered {A = List ℕ} (refused n) → n ≡ k 
 not-given n k (with-number p) e out = out (rw e at p)
 
 -- none is above 27
-pub refusal-below : {A : Type 0} (n : ℕ) → Numbered {A = A} (refused n) → n ≤ 27
-refusal-below n (with-number p) = leb-true n 27 (go (leb 1 n) (leb n 27) p)
-  where
-    go : (a b : Bool) → T (a && b) → b ≡ true
-    go true true p = refl
+pub in-table-most : (n : ℕ) → InTable n → n ≤ 27
+in-table-most n p = leb→le n 27 (both (leb 1 n) (leb n 27) p .1)
 
--- 28 carries the length that is needed, which is not 0
-pub room-length : (out bytes : List ℕ) (o : Outcome (List ℕ)) → Numbered o → answerWith out bytes o .number ≡ 28 → 0 < answerWith out bytes o .length
-unfolding answerWith
-room-length out bytes (refused n) p e = absurd (not-given n 28 p e (λ t. t))
-room-length out bytes (fine ps) p e = go (leb (length ps) (length out)) refl e
-  where
-    go : (t : Bool) → leb (length ps) (length out) ≡ t → _≡_ {A = ℕ} (if t then 0 else 28) 28 → 0 < length ps
-    go true f e = absurd (omega arith)
-    go false f e = omega (arith, leb-false (length ps) (length out) f)
+pub refusal-below : {A : Type 0} (n : ℕ) → Numbered {A = A} (refused n) → n ≤ 27
+refusal-below n (with-number p) = in-table-most n p
+
+-- so neither success nor the room is among them
+pub in-table-early : (n : ℕ) → InTable n → NeitherNumber n
+in-table-early n p = (λ e. rw e at p, λ e. rw e at p)
+
+pub early : {A : Type 0} (o : Outcome A) → Numbered o → Early o
+early o p = within-larger in-table-early o p
+
+pub block-early : (img : List ℕ) → Early (block img)
+block-early img = early (block img) (block-numbered img)

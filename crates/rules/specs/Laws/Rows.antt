@@ -2,8 +2,9 @@
 use mathlib.Core.Path.{_≡_, refl, sym}
 use Prim.Native.Nat.{ℕ, zero, suc, _-_, _≤_}
 use native.Mathlib.Omega.{arith}
-use mathlib.Core.Bool.{Bool, true, false}
+use mathlib.Core.Bool.{Bool, true, false, _&&_}
 use mathlib.Core.Option.{Option, none, some}
+use lib.Dec.{T}
 use Rattle.rules.specs.Doc.Outcomes.{if_then_else_, Outcome, fine, refused, _>>=_, require, given}
 
 pub apart : {A : Type 0} {a : A} {n : ℕ} → fine a ≡ refused n → ⊥
@@ -34,6 +35,11 @@ bind-known (refused n) e = refl
 
 pub bind-cong : {A B : Type 0} {f g : A → Outcome B} (o : Outcome A) → ((x : A) → f x ≡ g x) → (o >>= f) ≡ (o >>= g)
 bind-cong o e = bind-known o (λ x f. e x)
+
+-- two tests that both hold
+pub both : (p q : Bool) → T (p && q) → T p × T q
+both true q t = (tt, t)
+both false q t = absurd t
 
 -- what holds of one thing or another, by a test
 pub by-test : {A : Type 0} (P : A → Type 0) (t : Bool) {x y : A} → (t ≡ true → P x) → (t ≡ false → P y) → P (if t then x else y)

@@ -1,6 +1,6 @@
 -- Images of one length that agree on the bytes consulted have the same headers there, and the same boxes walked, at any level.
 use mathlib.Core.Path.{_≡_, refl, sym, ap, ap₂, _∙_}
-use Prim.Native.Nat.{ℕ, zero, suc, _+_, _-_, _≤_}
+use Prim.Native.Nat.{ℕ, _+_, _-_, _≤_}
 use native.Mathlib.Omega.{arith}
 use mathlib.Core.Bool.{Bool, true, false}
 use mathlib.Core.Option.{Option, none, some}
@@ -11,12 +11,13 @@ use borrow.Author.Tests.{ltb-false}
 use Rattle.rules.specs.Doc.Outcomes.{if_then_else_, Outcome, fine, refused, _>>=_}
 use Rattle.rules.specs.Doc.Lists.{only, each}
 use Rattle.rules.specs.Doc.Bytes.{numberAt, positions, bytesIn}
-use Rattle.rules.specs.Doc.Walks.{Then, onward, halt, Step, over, cut, met, Walk, bare, walked, judged, after, run}
+use Rattle.rules.specs.Doc.Walks.{Step, over, cut, met, run}
 use Rattle.rules.specs.Doc.Headers.{Header, headerOf, headerAt, bodySize, Box, boxWith}
 use Rattle.rules.specs.Doc.Levels.{Level, tested, said, decided, boxStep, levelStep, boxes}
-use Rattle.rules.specs.Doc.Consulted.{spanBytes, boxBytes, cutBytes, walkBytes, Agree}
+use Rattle.rules.specs.Doc.Consulted.{spanBytes, boxBytes, cutBytes, boxesBytes, Agree}
 use Rattle.rules.specs.Laws.Headers.{none-short, none-long, some-long, some-short}
-use Rattle.rules.specs.Laws.Agreement.{agree-left, agree-right, agree-both, Range, range-of, number-same, bytes-same}
+use Rattle.rules.specs.Laws.Agreement.{agree-left, agree-right, Range, range-of, number-same, bytes-same}
+use Rattle.rules.specs.Laws.SameWalks.{stepBytes, run-same}
 
 -- ---- A header
 
@@ -69,10 +70,8 @@ header-same a b at e g = headers-same a b (length a) at _ _ _ refl refl refl g �
 -- ---- A walk over boxes, at any level
 
 -- what a step of the walk reads
-unfoldable stepBytes : Level → ℕ → ℕ → Step Box → List ℕ
-stepBytes l n at over = []
-stepBytes l n at (cut k) = positions at (n - at)
-stepBytes l n at (met x v) = boxBytes l n x
+abbrev boxStepBytes : Level → ℕ → ℕ → Step Box → List ℕ
+boxStepBytes l n = stepBytes (boxBytes l n) (cutBytes n)
 
 module _ (l : Level) (a b : List ℕ) (e : length a ≡ length b) where
   tested-same : (x : Box) → Agree a b (if l .opens (x .kind) then spanBytes (length a) (x .body) else []) → tested l a x ≡ tested l b x
@@ -96,7 +95,7 @@ module _ (l : Level) (a b : List ℕ) (e : length a ≡ length b) where
       said-same x (agree-right a b (positions (x .start) (x .body .from - x .start)) (if l .opens (x .kind) then spanBytes (length a) (x .body) else []) g)
   sized-same h (refused n) g = refl
 
-  boxStep-same : (o : Option Header) (at : ℕ) → Agree a b (stepBytes l (length a) at (boxStep l a o)) → boxStep l a o ≡ boxStep l b o
+  boxStep-same : (o : Option Header) (at : ℕ) → Agree a b (boxStepBytes l (length a) at (boxStep l a o)) → boxStep l a o ≡ boxStep l b o
   unfolding boxStep stepBytes
   boxStep-same none at g = refl
   boxStep-same (some h) at g =
@@ -104,56 +103,27 @@ module _ (l : Level) (a b : List ℕ) (e : length a ≡ length b) where
       ∙ ap (λ (n : ℕ). met (boxWith h (decided (bodySize n h))) (bodySize n h >>= λ size. said l b (boxWith h size))) e
 
   -- the bytes of a step include those of the look for its header
-  step-looks : (o : Option Header) (at : ℕ) → Agree a b (stepBytes l (length a) at (boxStep l a o)) → Agree a b (headerBytes (length a) at o)
-  unfolding boxStep stepBytes headerBytes boxBytes boxWith
+  step-looks : (o : Option Header) (at : ℕ) → Agree a b (boxStepBytes l (length a) at (boxStep l a o)) → Agree a b (headerBytes (length a) at o)
+  unfolding boxStep stepBytes headerBytes boxBytes cutBytes boxWith
   step-looks none at g = g
   step-looks (some h) at g =
       let k : h .start + h .width - h .start ≡ h .width = omega arith in
       rw k at (agree-left a b (positions (h .start) (h .start + h .width - h .start)) _ g)
 
-  step-same : (at : ℕ) → Agree a b (stepBytes l (length a) at (levelStep l a at)) → levelStep l a at ≡ levelStep l b at
+  step-same : (at : ℕ) → Agree a b (boxStepBytes l (length a) at (levelStep l a at)) → levelStep l a at ≡ levelStep l b at
   unfolding levelStep stepBytes
   step-same at g = go (leb (length a) at) g ∙ ap (λ (n : ℕ). if leb n at then over else boxStep l b (headerAt b at)) e
     where
-      go : (t : Bool) → Agree a b (stepBytes l (length a) at (if t then over else boxStep l a (headerAt a at)))
+      go : (t : Bool) → Agree a b (boxStepBytes l (length a) at (if t then over else boxStep l a (headerAt a at)))
           → (if t then over else boxStep l a (headerAt a at)) ≡ (if t then over else boxStep l b (headerAt b at))
       go true g = refl
       go false g = boxStep-same (headerAt a at) at g ∙ ap (boxStep l b) (header-same a b at e (step-looks (headerAt a at) at g))
 
-module _ (l : Level) (a b : List ℕ) (n : ℕ) where
-  judged-same : (x : Box) (v : Outcome Then) (f g : ℕ → Walk Box) → ((q : ℕ) → Agree a b (walkBytes l n (f q)) → f q ≡ g q)
-      → Agree a b (walkBytes l n (judged x v f)) → judged x v f ≡ judged x v g
-  unfolding judged
-  judged-same x (fine (onward next)) f g ih ag = ih next ag
-  judged-same x (fine halt) f g ih ag = refl
-  judged-same x (refused k) f g ih ag = refl
-
-  after-same : (at : ℕ) (st y : Step Box) (f g : ℕ → Walk Box) → (Agree a b (stepBytes l n at st) → st ≡ y)
-      → ((q : ℕ) → Agree a b (walkBytes l n (f q)) → f q ≡ g q)
-      → Agree a b (walkBytes l n (after at st f)) → after at st f ≡ after at y g
-  unfolding after walked bare walkBytes cutBytes stepBytes each
-  after-same at over y f g same ih ag = ap (λ (z : Step Box). after at z g) (same tt)
-  after-same at (cut k) y f g same ih ag = ap (λ (z : Step Box). after at z g) (same ag)
-  after-same at (met x v) y f g same ih ag =
-      let w : Walk Box = judged x v f in
-      let box : List ℕ = boxBytes l n x in
-      let more : List ℕ = each (boxBytes l n) (w .list) in
-      let tail : List ℕ = cutBytes n (w .end) in
-      let front : Agree a b (box ++ more) = agree-left a b (box ++ more) tail ag in
-      let rest : Agree a b (more ++ tail) = agree-both a b more tail (agree-right a b box more front) (agree-right a b (box ++ more) tail ag) in
-      ap (walked x) (judged-same x v f g ih rest) ∙ ap (λ (z : Step Box). after at z g) (same (agree-left a b box more front))
-
-  run-same : (s t : ℕ → Step Box) → ((p : ℕ) → Agree a b (stepBytes l n p (s p)) → s p ≡ t p)
-      → (m p : ℕ) → Agree a b (walkBytes l n (run s m p)) → run s m p ≡ run t m p
-  unfolding run
-  run-same s t same zero p ag = refl
-  run-same s t same (suc m) p ag = after-same p (s p) (t p) (run s m) (run t m) (same p) (run-same s t same m) ag
-
 -- One law for all levels: the same bytes consulted, the same boxes walked, and the same end.
-pub boxes-same : (l : Level) (a b : List ℕ) (at : ℕ) → length a ≡ length b → Agree a b (walkBytes l (length a) (boxes l a at)) → boxes l a at ≡ boxes l b at
-unfolding boxes
+pub boxes-same : (l : Level) (a b : List ℕ) (at : ℕ) → length a ≡ length b → Agree a b (boxesBytes l (length a) (boxes l a at)) → boxes l a at ≡ boxes l b at
+unfolding boxes boxesBytes
 boxes-same l a b at e g =
-    run-same l a b (length a) (levelStep l a) (levelStep l b) (step-same l a b e) (length a) at g
+    run-same (boxBytes l (length a)) (cutBytes (length a)) a b (levelStep l a) (levelStep l b) (step-same l a b e) (length a) at g
     ∙ ap (λ (n : ℕ). run (levelStep l b) n at) e
 
 -- whatever is read from the bodies that the level opens

@@ -6,6 +6,7 @@ use lib.ListN.{length, drop}
 use lib.Seq.{sets}
 use Rattle.rules.specs.OverBytes.{gathered}
 use Rattle.rules.specs.Laws.Over.{gather-full, gather-done, gather-next}
+use Rattle.output.specs.Copied.{copied-then}
 use Rattle.locations.specs.Told.{extentsOf}
 use Rattle.join.specs.Told.{source, liesBy, joinedOf}
 use Rattle.join.specs.Answers.{extents-end}
@@ -59,7 +60,7 @@ loop-again c =
     let p = c .before .before .before .before .before in
     let l = p .before .before .before .before .loop in (
       w .kept .1 .1 .0 ∙ l .inv .0,
-      gather-next _ _ _ _ _ _ (l .inv .1) (p .before .read-extent .ensures) (p .extent-part .ensures) (c .minus .ensures) _ _ (w .ensures),
+      gather-next _ _ _ _ _ _ (l .inv .1) (p .before .read-extent .ensures) (p .extent-part .ensures) (c .minus .ensures) _ _ (copied-then (w .ensures)),
     )
 
 same-length-2 : tie.Need-same-length-2 Inv-loop μ-loop

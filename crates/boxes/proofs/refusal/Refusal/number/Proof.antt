@@ -1,4 +1,4 @@
--- Variant by variant: the number that is written beside it fits a byte, and is the one of the table. A sum of 29 is taken apart one by one.
+-- Variant by variant: the number that is written beside it fits a byte, and is the one of the table. A sum of 32 is taken apart one by one.
 use mathlib.Core.Logic.{⊎-elim}
 use mir.Facts.{fits-lit}
 use mir.Syntax.{w8, w64}
@@ -103,6 +103,15 @@ enum-told-28 c = search needs
 enum-told-29 : tie.Need-enum-told-29
 enum-told-29 c = search needs
 
+enum-told-30 : tie.Need-enum-told-30
+enum-told-30 c = search needs
+
+enum-told-31 : tie.Need-enum-told-31
+enum-told-31 c = search needs
+
+enum-told-32 : tie.Need-enum-told-32
+enum-told-32 c = search needs
+
 -- a number that is no less than 0, fits a byte, and is the one of the table
 abbrev Right : ℕ → Refusal → Type 0
 Right n e = (T (nonNeg (toZ w64 n)) × Fits w8 (natAbs (toZ w64 n))) × (natAbs (toZ w64 n) ≡ number e)
@@ -137,7 +146,10 @@ by-variant c =
     (⊎-elim (λ w. rw (w .2, w .1 .given .1) ((tt, fits-lit tt), refl))
     (⊎-elim (λ w. rw (w .2, w .1 .given .1) ((tt, fits-lit tt), refl))
     (⊎-elim (λ w. rw (w .2, w .1 .given .1) ((tt, fits-lit tt), refl))
-    (λ w. rw (w .2, w .1 .given .1) ((tt, fits-lit tt), refl))))))))))))))))))))))))))))) (c .match .came)
+    (⊎-elim (λ w. rw (w .2, w .1 .given .1) ((tt, fits-lit tt), refl))
+    (⊎-elim (λ w. rw (w .2, w .1 .given .1) ((tt, fits-lit tt), refl))
+    (⊎-elim (λ w. rw (w .2, w .1 .given .1) ((tt, fits-lit tt), refl))
+    (λ w. rw (w .2, w .1 .given .1) ((tt, fits-lit tt), refl)))))))))))))))))))))))))))))))) (c .match .came)
 
 cast-result : tie.Need-cast-result
 cast-result c = by-variant c .0
@@ -178,5 +190,8 @@ number-spec =
     enum-told-27
     enum-told-28
     enum-told-29
+    enum-told-30
+    enum-told-31
+    enum-told-32
     cast-result
     returns)

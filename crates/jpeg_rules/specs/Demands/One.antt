@@ -1,0 +1,89 @@
+-- Demand 1: a refusal changes no byte of the output, success changes the block's bytes only, and the room refusal is given exactly when the block is
+-- longer than the buffer: the theorems for every format, said of these. How large length and number can be. And that a block stands behind
+-- `Exif` and two zero bytes in the E1 segment that ended the search.
+use mathlib.Core.Path.{_≡_, refl, sym}
+use Prim.Native.Nat.{ℕ, _≤_}
+use native.Mathlib.Nat.{le-trans}
+use native.Mathlib.Omega.{arith}
+use mathlib.Core.Bool.{Bool, true, false}
+use mathlib.Core.List.{List}
+use lib.ListN.{length}
+use lib.Dec.{lit≤}
+use Rattle.rules.specs.Doc.Outcomes.{if_then_else_, fine, refused, require}
+use Rattle.rules.specs.Doc.Walks.{End, ended, cutAt, refusedAt, stoppedAt}
+use Rattle.rules.specs.Doc.Block.{block}
+use Rattle.rules.specs.Doc.Heif.{isHeif}
+use Rattle.rules.specs.Laws.Rows.{apart, bind-fine}
+use Rattle.rules.specs.Laws.Endian.{Bytes}
+use Rattle.rules.specs.Laws.Limit.{block-limit}
+use Rattle.rules.specs.Demands.One as every
+use Rattle.rules.specs.Demands.One.{Longer, Written}
+use Rattle.jpeg_rules.specs.Doc.Segments.{Segment, isExif, segments}
+use Rattle.jpeg_rules.specs.Doc.Block.{isJpeg, behindName, found, jpegBlock, jpegAnswer}
+use Rattle.jpeg_rules.specs.Doc.Photo.{photoBlock, photoAnswer}
+use Rattle.jpeg_rules.specs.Laws.Numbers.{jpeg-early, photo-early, photo-most}
+use Rattle.jpeg_rules.specs.Laws.Limit.{jpeg-limit}
+
+-- ---- JPEG
+
+module _ (img out : List ℕ) where
+  pub refusal-keeps : (jpegAnswer img out .number ≡ 0 → ⊥) → jpegAnswer img out .output ≡ out
+  refusal-keeps h = every.refusal-keeps img out (jpegBlock img) h
+
+  pub success-writes : jpegAnswer img out .number ≡ 0 → Written (jpegBlock img) img out (jpegAnswer img out .output)
+  success-writes h = every.success-writes img out (jpegBlock img) (jpeg-early img) h
+
+  pub room-exactly : (jpegAnswer img out .number ≡ 28 → Longer (jpegBlock img) out) × (Longer (jpegBlock img) out → jpegAnswer img out .number ≡ 28)
+  room-exactly = (every.room-only-then img out (jpegBlock img) (jpeg-early img), every.room-then img out)
+
+  -- No length is above 65,527, so a buffer of that length has room for every block.
+  pub jpeg-length : Bytes img → jpegAnswer img out .length ≤ 65527
+  jpeg-length b = every.length-within img out 65527 (jpegBlock img) (λ ps e. jpeg-limit img b e)
+
+  pub jpeg-room : Bytes img → 65527 ≤ length out → jpegAnswer img out .number ≡ 28 → ⊥
+  jpeg-room b h e = every.enough-room img out 65527 (jpegBlock img) (jpeg-early img) (λ ps e. jpeg-limit img b e) h e
+
+-- the E1 segment that ended the search, which starts `Exif` and two zero bytes, and the block behind them
+pub record Holds (img ps : List ℕ) : Type 0 where
+  pub segment : Segment
+  pub ended-search : segments img .end ≡ stoppedAt segment
+  pub exif : isExif img segment ≡ true
+  pub behind : ps ≡ behindName segment
+
+pub block-held : (img : List ℕ) {ps : List ℕ} → jpegBlock img ≡ fine ps → Holds img ps
+unfolding jpegBlock found
+block-held img {ps} e =
+    let (u, f, g) = bind-fine (require (isJpeg img) 31) _ (sym e) in
+    go (segments img .end) refl g
+  where
+    go : (end : End Segment) → segments img .end ≡ end → fine ps ≡ found img end → Holds img ps
+    go ended f g = absurd (apart g)
+    go (cutAt n at) f g = absurd (apart g)
+    go (refusedAt n x) f g = absurd (apart g)
+    go (stoppedAt x) f g = by (isExif img x) refl g
+      where
+        by : (t : Bool) → isExif img x ≡ t → fine ps ≡ (if t then fine (behindName x) else refused 1) → Holds img ps
+        by false k g = absurd (apart g)
+        by true k g = record { segment = x; ended-search = f; exif = k; behind = cc }
+
+-- ---- The entry above both formats
+
+pub photo-limit : (img : List ℕ) → Bytes img → {ps : List ℕ} → photoBlock img ≡ fine ps → length ps ≤ 65531
+unfolding photoBlock
+photo-limit img b {ps} e = go (isHeif img) (isJpeg img) e
+  where
+    go : (t j : Bool) → (if t then block img else if j then jpegBlock img else block img) ≡ fine ps → length ps ≤ 65531
+    go true j e = block-limit img e
+    go false true e = le-trans (jpeg-limit img b e) (lit≤ tt)
+    go false false e = block-limit img e
+
+module _ (img out : List ℕ) where
+  pub photo-length : Bytes img → photoAnswer img out .length ≤ 65531
+  photo-length b = every.length-within img out 65531 (photoBlock img) (λ ps e. photo-limit img b e)
+
+  pub photo-room : Bytes img → 65531 ≤ length out → photoAnswer img out .number ≡ 28 → ⊥
+  photo-room b h e = every.enough-room img out 65531 (photoBlock img) (photo-early img) (λ ps e. photo-limit img b e) h e
+
+  -- No number is above 33.
+  pub photo-number : photoAnswer img out .number ≤ 33
+  photo-number = every.number-within img out 33 (omega arith) (photoBlock img) (photo-most img)

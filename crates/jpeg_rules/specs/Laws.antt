@@ -1,0 +1,10 @@
+-- Laws that the proofs cite.
+-- the numbers that can be given
+pub mod Numbers
+-- where the marker byte stands
+pub mod Marker
+-- agreement of two images
+pub mod SameSegments
+-- the segment that ended the walk, and the longest block
+pub mod Stopped
+pub mod Limit

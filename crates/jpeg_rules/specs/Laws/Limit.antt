@@ -1,0 +1,74 @@
+-- No block is longer than 65,527 bytes: two bytes say the length of its segment, which counts them and the name before the block.
+use mathlib.Core.Path.{_≡_, refl, sym, ap}
+use Prim.Native.Nat.{ℕ, zero, suc, _+_, _-_, _≤_, _<_}
+use native.Mathlib.Omega.{arith}
+use mathlib.Core.Bool.{Bool, true, false, _||_}
+use mathlib.Core.Option.{Option, none, some}
+use mathlib.Core.List.{List}
+use lib.ListN.{length}
+use lib.Dec.{leb, ltb, eqb}
+use Rattle.rules.specs.Doc.Outcomes.{if_then_else_, fine, refused, _>>=_, require}
+use Rattle.rules.specs.Doc.Bytes.{byteAt, numberAt, positions, sizeOf}
+use Rattle.rules.specs.Doc.Walks.{End, ended, cutAt, refusedAt, stoppedAt}
+use Rattle.rules.specs.Laws.Rows.{apart, bind-fine}
+use Rattle.rules.specs.Laws.Numbers.{number-below}
+use Rattle.rules.specs.Laws.Endian.{Bytes}
+use Rattle.jpeg_rules.specs.Doc.Segments.{fill, endsSearch, lacksLength, markerAt, Segment, bodyAt, body, sizeAt, sizeRead, segmentAt, isExif, segments}
+use Rattle.jpeg_rules.specs.Doc.Block.{isJpeg, behindName, found, jpegBlock}
+use Rattle.jpeg_rules.specs.Laws.Stopped.{stopped-read}
+
+positions-length : (at n : ℕ) → length (positions at n) ≡ n
+unfolding positions
+positions-length at zero = refl
+positions-length at (suc n) = ap suc (positions-length (suc at) n)
+
+module _ (s : List ℕ) where
+  -- a length that is read has two bytes
+  read-small : (at marker size : ℕ) → Bytes s → fine (some size) ≡ sizeRead s at marker → size < 65536
+  unfolding sizeRead sizeAt
+  read-small at marker size b e = go (endsSearch marker || lacksLength marker) e
+    where
+      go : (t : Bool) → fine (some size) ≡ (if t then fine none else (sizeAt s at >>= λ size. fine (some size))) → size < 65536
+      go true e = absurd (let z : _≡_ {A = ℕ} 0 1 = cc in omega arith)
+      go false e =
+          let (n, f, g) = bind-fine (sizeAt s at) (λ size. fine (some size)) e in
+          let (u, h, i) = bind-fine (require (leb (at + 3) (length s)) 2) (λ u. fine (numberAt s (at + 1) 2)) f in
+          let z : size ≡ numberAt s (at + 1) 2 = cc in
+          rw z (number-below s (at + 1) 2 b)
+
+  segment-small : (start : ℕ) (x : Segment) {size : ℕ} → Bytes s → segmentAt s start ≡ fine x → x .size ≡ some size → size < 65536
+  unfolding segmentAt
+  segment-small start x {size} b e f =
+      let at = markerAt s start in
+      let (u, g, h) = bind-fine (require (eqb (byteAt s start) fill) 32) _ (sym e) in
+      let (v, i, j) = bind-fine (require (ltb at (length s)) 2) _ h in
+      let (size′, k, l) = bind-fine (sizeRead s at (byteAt s at)) _ j in
+      let z : x .size ≡ size′ = cc in
+      read-small at (byteAt s at) size b (rw (← f, z) k)
+
+  name-limit : (x : Segment) → ((size : ℕ) → x .size ≡ some size → size < 65536) → length (behindName x) ≤ 65527
+  unfolding behindName body bodyAt
+  name-limit x h = rw (positions-length (body x .from + 6) (sizeOf (body x) - 6)) (go (x .size) h)
+    where
+      go : (o : Option ℕ) → ((size : ℕ) → o ≡ some size → size < 65536) → sizeOf (bodyAt (x .at) o) - 6 ≤ 65527
+      go none h = omega arith
+      go (some size) h = omega (arith, h size refl)
+
+pub jpeg-limit : (img : List ℕ) → Bytes img → {ps : List ℕ} → jpegBlock img ≡ fine ps → length ps ≤ 65527
+unfolding jpegBlock segments found
+jpeg-limit img b {ps} e =
+    let (u, f, g) = bind-fine (require (isJpeg img) 31) _ (sym e) in
+    go (segments img .end) refl g
+  where
+    go : (end : End Segment) → segments img .end ≡ end → fine ps ≡ found img end → length ps ≤ 65527
+    go ended f g = absurd (apart g)
+    go (cutAt n at) f g = absurd (apart g)
+    go (refusedAt n x) f g = absurd (apart g)
+    go (stoppedAt x) f g = by (isExif img x) g
+      where
+        by : (t : Bool) → fine ps ≡ (if t then fine (behindName x) else refused 1) → length ps ≤ 65527
+        by false g = absurd (apart g)
+        by true g =
+            let (p, h, i) = stopped-read img x f in
+            let z : ps ≡ behindName x = cc in
+            rw z (name-limit img x (λ size k. segment-small img p x b h k))

@@ -1,0 +1,45 @@
+-- Demands 1 and 3 for every call of `get_exif_attr`, from its contract alone: what holds of every format (crates/output, specs/Demands), said of both.
+-- `r` is what a call answers, `after` the output after it.
+use mathlib.Core.Path.{_≡_}
+use Prim.Native.Nat.{ℕ}
+use mathlib.Core.List.{List}
+use lib.ListN.{length}
+use Rattle.rules.specs.Doc.Consulted.{Agree}
+use Rattle.rules.specs.Demands.One.{Longer, Written}
+use Rattle.jpeg_rules.specs.Doc.Photo.{photoBlock, photoAnswer, photoConsulted}
+use Rattle.jpeg_rules.specs.Laws.Numbers.{photo-early}
+use Rattle.jpeg_rules.specs.Demands.Three.{photo-quiet}
+use Rattle.output.specs.Told.{told}
+use Rattle.output.specs.Demands as every
+use Rattle.output.specs.Demands.{Says}
+use Rattle.output.specs.declared.Extracted.{Extracted}
+
+-- ---- Demand 1
+
+module _ (img out : List ℕ) (r : Extracted) (after : List ℕ) (meets : told r after ≡ photoAnswer img out) where
+  -- Every image, with an output buffer of every length, gets an answer: the block's length, or one refusal by number.
+  pub gets-answer : Says (photoBlock img) r
+  gets-answer = every.gets-answer img out (photoBlock img) (photo-early img) after r meets
+
+  pub output-is : after ≡ photoAnswer img out .output
+  output-is = every.output-is img out (photoBlock img) (photo-early img) r after meets
+
+  -- A refusal changes no byte of the output; success changes the block's bytes only.
+  pub refusal-untouched : (told r after .number ≡ 0 → ⊥) → after ≡ out
+  refusal-untouched = every.refusal-untouched img out (photoBlock img) (photo-early img) r after meets
+
+  pub success-only-block : told r after .number ≡ 0 → Written (photoBlock img) img out after
+  success-only-block = every.success-only-block img out (photoBlock img) (photo-early img) r after meets
+
+  -- The room refusal is given exactly when the block is longer than the buffer.
+  pub room-exactly : (told r after .number ≡ 28 → Longer (photoBlock img) out) × (Longer (photoBlock img) out → told r after .number ≡ 28)
+  room-exactly = every.room-exactly img out (photoBlock img) (photo-early img) r after meets
+
+-- ---- Demand 3
+
+-- Two calls: two images of equal length, equal output buffers, agreement on the bytes consulted for the first: the same answer, and the same buffer.
+pub pictures-have-no-say : (a b out : List ℕ) → length a ≡ length b → Agree a b (photoConsulted a (length out))
+    → (r s : Extracted) (after after′ : List ℕ) → told r after ≡ photoAnswer a out → told s after′ ≡ photoAnswer b out
+    → (r ≡ s) × (after ≡ after′) × (told s after′ ≡ photoAnswer a out)
+pictures-have-no-say a b out e g r s after after′ p q =
+    every.no-say a out (photoBlock a) (photo-early a) (photo-quiet a b e out g) r s after after′ p q
