@@ -1,17 +1,15 @@
 -- The six bytes that a body starts with if it holds a block: the definition has them as one number, the code reads four and two.
-use mathlib.Core.Path.{_≡_, refl, sym, ap, _∙_}
+use mathlib.Core.Path.{_≡_, refl, sym, ap}
 use mathlib.Core.Bool.{Bool, true, false, _&&_}
 use mathlib.Core.List.{List}
 use Prim.Native.Nat.{ℕ, _+_, _*_, _≤_, _<_}
-use native.Mathlib.Nat.{add-zero}
 use native.Mathlib.Omega.{arith}
 use lib.ListN.{length}
 use lib.Dec.{leb, eqb}
 use borrow.Author.Tests.{le-leb, lt-leb, eq-eqb, ne-eqb, leb-true, eqb-true, eqb-false}
 use Rattle.rules.specs.Doc.Bytes.{numberAt, part, sizeOf}
-use Rattle.rules.specs.Doc.Endian.{big, numberIn}
-use Rattle.rules.specs.Laws.Numbers.{number-below, part-length}
-use Rattle.rules.specs.Laws.Endian.{Bytes, number-in-part, number-big}
+use Rattle.rules.specs.Laws.Numbers.{number-below, number-part, part-length}
+use Rattle.rules.specs.Laws.Endian.{Bytes}
 use Rattle.jpeg_rules.specs.Doc.Segments.{Segment, body, exifName, APP1, isExif}
 
 -- Request three's `isExif`, of a marker and the bytes of a body.
@@ -48,10 +46,6 @@ module _ (marker : ℕ) (s : List ℕ) where
           go false k = sym (ne-eqb (word * 65536 + zeros) exifName (λ l. eqb-false zeros 0 k (omega arith)))
 
 -- The definition asks the same of the image, where the body lies in it.
-number-part : (s : List ℕ) (from size n : ℕ) → n ≤ size → numberAt (part s from size) 0 n ≡ numberAt s from n
-number-part s from size n h =
-    rw (← number-big (part s from size) 0 n, ← number-big s from n) (number-in-part big s from size 0 n (omega arith) ∙ ap (λ (at : ℕ). numberIn big s at n) (add-zero from))
-
 pub exif-body : (s : List ℕ) (x : Segment) → body x .to ≤ length s → isExif s x ≡ exifBody (x .marker) (part s (body x .from) (sizeOf (body x)))
 unfolding isExif exifBody
 exif-body s x h = rw (part-length s (body x) h) (ap (λ (t : Bool). eqb (x .marker) APP1 && t) (go (leb 6 (sizeOf (body x))) refl))

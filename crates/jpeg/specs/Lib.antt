@@ -1,8 +1,12 @@
--- What the answers say, what marks an Exif segment, what the two loops follow, and what one segment leads to.
+-- What the answers say, what each function follows, how the parts make the whole, that each contract determines the outcome, and what that of
+-- `get_exif_attr` alone shows.
 pub mod Told
 pub mod Markers
 pub mod Exif
+pub mod Bodies
 pub mod Segments
 pub mod Search
 pub mod Whole
 pub mod Unique
+pub mod Demands
+pub mod Useless

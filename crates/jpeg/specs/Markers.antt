@@ -13,16 +13,12 @@ use Rattle.jpeg_rules.specs.Doc.Segments.{fill, endsSearch, lacksLength, pastFi
 
 -- ---- Kinds of markers
 
--- D9 and DA stand side by side, so the code's two arms are one test from below and one from above
 module _ (marker : ℕ) where
-  pub ends-below : marker < 0xd9 → false ≡ endsSearch marker
+  pub ends-other : (marker ≡ 0xda → ⊥) → (marker ≡ 0xd9 → ⊥) → false ≡ endsSearch marker
   unfolding endsSearch
-  ends-below h = rw (ne-eqb marker 0xda (λ e. omega arith), ne-eqb marker 0xd9 (λ e. omega arith))
+  ends-other a b = rw (ne-eqb marker 0xda a, ne-eqb marker 0xd9 b)
 
-  pub ends-above : 0xdb ≤ marker → false ≡ endsSearch marker
-  unfolding endsSearch
-  ends-above h = rw (ne-eqb marker 0xda (λ e. omega arith), ne-eqb marker 0xd9 (λ e. omega arith))
-
+  -- the two stand side by side
   pub ends-between : 0xd9 ≤ marker → marker < 0xdb → true ≡ endsSearch marker
   unfolding endsSearch
   ends-between h k = go (eqb marker 0xda) refl

@@ -3,36 +3,31 @@ use mathlib.Core.Path.{_≡_, refl, sym, ap, _∙_}
 use mathlib.Core.Bool.{Bool, true, false, _||_}
 use mathlib.Core.Option.{Option, none, some}
 use mathlib.Core.List.{List}
-use Prim.Native.Nat.{ℕ, _+_, _-_, _≤_, _<_}
+use Prim.Native.Nat.{ℕ, _≤_, _<_}
 use native.Mathlib.Omega.{arith}
 use lib.ListN.{length}
 use lib.Dec.{leb, ltb, eqb}
-use borrow.Author.Tests.{le-leb, lt-leb, leb-true}
+use borrow.Author.Tests.{le-leb, lt-leb}
 use Rattle.rules.specs.Doc.Outcomes.{if_then_else_, Outcome, fine, refused, _>>=_, require}
-use Rattle.rules.specs.Doc.Bytes.{byteAt, Span, positions, sizeOf}
-use Rattle.rules.specs.Doc.Walks.{Then, onward, halt, Step, over, met, End, ended, cutAt, refusedAt, stoppedAt, Walk, bare, walked, judged, after, run}
-use Rattle.rules.specs.Laws.Rows.{apart, bind-fine, required, by-test}
+use Rattle.rules.specs.Doc.Bytes.{byteAt, Span}
+use Rattle.rules.specs.Doc.Walks.{Then, onward, halt, over, met, Walk, bare, walked, judged, after, run}
+use Rattle.rules.specs.Laws.Rows.{bind-fine, by-test}
 use Rattle.rules.specs.Laws.Unroll.{Forward, unroll}
 use Rattle.jpeg_rules.specs.Doc.Segments.{fill, endsSearch, markerAt, Segment, bodyAt, body, sizeRead, segmentAt, isExif, sizeTest, said, segmentMet, segmentStep, segments}
+use Rattle.jpeg_rules.specs.Doc.Block.{blockIn, found}
 use Rattle.jpeg_rules.specs.Laws.Marker.{marker-least}
 use Rattle.jpeg.specs.Told.{Lead, on, block}
-use Rattle.jpeg.specs.Segments.{blockIn, leadOf, lead, leadAt}
+use Rattle.jpeg.specs.Segments.{leadBy, leadOf, leadAt}
 
 -- ---- Definitions
 
--- Request three's `found`, with where the block lies in the place of its positions.
-unfoldable pub foundAt : List ℕ → End Segment → Outcome Span
-foundAt s ended = refused 2
-foundAt s (cutAt n at) = refused n
-foundAt s (refusedAt n x) = refused n
-foundAt s (stoppedAt x) = blockIn s x
-
+-- where the block of an image lies, or why there is none
 unfoldable pub foundIn : List ℕ → Outcome Span
-foundIn s = foundAt s (segments s .end)
+foundIn s = found s (segments s .end)
 
 -- the same, of the segments from a position on
 unfoldable pub foundFrom : List ℕ → ℕ → Outcome Span
-foundFrom s at = foundAt s (run (segmentStep s) (length s) at .end)
+foundFrom s at = found s (run (segmentStep s) (length s) at .end)
 
 abbrev pub afterLead : List ℕ → Lead → Outcome Span
 afterLead s (on at) = foundFrom s at
@@ -89,23 +84,23 @@ module _ (s : List ℕ) where
   unfolding segmentStep
   step-over at h = rw (le-leb (length s) at h)
 
-  found-step : (at : ℕ) → foundFrom s at ≡ foundAt s (after at (segmentStep s at) (run (segmentStep s) (length s)) .end)
+  found-step : (at : ℕ) → foundFrom s at ≡ found s (after at (segmentStep s at) (run (segmentStep s) (length s)) .end)
   unfolding foundFrom
-  found-step at = ap (λ (w : Walk Segment). foundAt s (w .end)) (unroll (segmentStep s) (length s) step-forward step-over at)
+  found-step at = ap (λ (w : Walk Segment). found s (w .end)) (unroll (segmentStep s) (length s) step-forward step-over at)
 
   found-block : (o : Outcome Span) → o ≡ ((o >>= λ p. fine (block p)) >>= afterLead s)
   found-block (fine p) = refl
   found-block (refused n) = refl
 
-  found-said : (x : Segment) (v : Outcome Then) → foundAt s (judged x v (run (segmentStep s) (length s)) .end) ≡ ((v >>= leadOf s x) >>= afterLead s)
-  unfolding judged bare foundAt foundFrom leadOf
+  found-said : (x : Segment) (v : Outcome Then) → found s (judged x v (run (segmentStep s) (length s)) .end) ≡ ((v >>= leadBy s x) >>= afterLead s)
+  unfolding judged bare found foundFrom leadBy
   found-said x (refused n) = refl
   found-said x (fine halt) = found-block (blockIn s x)
   found-said x (fine (onward next)) = refl
 
   found-met : (at : ℕ) (o : Outcome Segment)
-      → foundAt s (after at (segmentMet s o) (run (segmentStep s) (length s)) .end) ≡ ((o >>= lead s) >>= afterLead s)
-  unfolding segmentMet after walked bare foundAt lead
+      → found s (after at (segmentMet s o) (run (segmentStep s) (length s)) .end) ≡ ((o >>= leadOf s) >>= afterLead s)
+  unfolding segmentMet after walked bare found leadOf
   found-met at (refused n) = refl
   found-met at (fine x) = found-said x (said s x)
 
@@ -121,20 +116,20 @@ module _ (s : List ℕ) where
 -- in the loop: the segments from `at` on decide the answer
 module _ (s : List ℕ) (at : ℕ) (inv : foundFrom s at ≡ foundIn s) where
   pub search-done : length s ≤ at → refused 2 ≡ foundIn s
-  unfolding after bare foundAt
+  unfolding after bare found
   search-done h = rw (found-step s at, step-over s at h) at inv
 
   pub search-next : at < length s → {o : Outcome Lead} → o ≡ leadAt s at → (o >>= afterLead s) ≡ foundIn s
   search-next h e = rw e (sym (found-next s at h) ∙ inv)
 
 pub on-ahead : (s : List ℕ) (at : ℕ) {next : ℕ} → fine (on next) ≡ leadAt s at → at < next
-unfolding leadAt lead leadOf
+unfolding leadAt leadOf leadBy
 on-ahead s at {next} e =
-    let (x, f, e₁) = bind-fine (segmentAt s at) (lead s) e in
-    let (then′, g, e₂) = bind-fine (said s x) (leadOf s x) e₁ in
+    let (x, f, e₁) = bind-fine (segmentAt s at) (leadOf s) e in
+    let (then′, g, e₂) = bind-fine (said s x) (leadBy s x) e₁ in
     go x f then′ g e₂
   where
-    go : (x : Segment) → fine x ≡ segmentAt s at → (t : Then) → fine t ≡ said s x → fine (on next) ≡ leadOf s x t → at < next
+    go : (x : Segment) → fine x ≡ segmentAt s at → (t : Then) → fine t ≡ said s x → fine (on next) ≡ leadBy s x t → at < next
     go x f (onward n) g e =
         let z : next ≡ n = cc in
         rw z (passed-ahead s at f g)

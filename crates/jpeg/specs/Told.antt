@@ -10,7 +10,7 @@ use Rattle.jpeg.specs.declared.segment.Next.the-variants as n
 use Rattle.jpeg.specs.declared.search.Found.{Found}
 use Rattle.jpeg.specs.declared.search.Found.the-variants as f
 
--- what a segment leads to: on, to the next, or to the block
+-- what a segment leads to: the next one's position, or where the block lies
 pub data Lead : Type 0 where
   on : ℕ → Lead
   block : Span → Lead

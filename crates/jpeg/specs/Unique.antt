@@ -3,11 +3,10 @@ use mathlib.Core.Path.{_≡_, sym, _∙_}
 use mathlib.Core.Bool.{Bool}
 use mathlib.Core.List.{List}
 use Prim.Native.Nat.{ℕ}
-use Rattle.rules.specs.Demands.One.{needs-length}
-use Rattle.jpeg_rules.specs.Doc.Block.{isJpeg, jpegAnswer}
+use Rattle.jpeg_rules.specs.Doc.Block.{isJpeg, jpegBlock, jpegAnswer}
 use Rattle.jpeg_rules.specs.Laws.Numbers.{jpeg-early}
 use Rattle.output.specs.Told.{told}
-use Rattle.output.specs.Unique.{told-one}
+use Rattle.output.specs.Demands.{answer-one}
 use Rattle.output.specs.declared.Extracted.{Extracted}
 
 -- of `is_jpeg`
@@ -17,4 +16,4 @@ jpeg-one s e f = e ∙ sym f
 -- of `get_exif_attr`, answer and output together
 pub attr-one : (img out : List ℕ) (x y : Extracted) (after after′ : List ℕ) → told x after ≡ jpegAnswer img out → told y after′ ≡ jpegAnswer img out
     → (x ≡ y) × (after ≡ after′)
-attr-one img out x y after after′ e f = told-one (needs-length img out (jpeg-early img)) x y after after′ e f
+attr-one img out x y after after′ e f = answer-one img out (jpegBlock img) (jpeg-early img) x y after after′ e f

@@ -4,7 +4,8 @@ ghost use Prim.Native.Nat.{_<_};
 ghost use lib.ListN.{length};
 ghost use Rattle.jpeg.specs.Told.{bodyOf, nextOf};
 ghost use Rattle.jpeg.specs.Exif.{exifBody};
-ghost use Rattle.jpeg.specs.Segments.{bodyTo, leadAt};
+ghost use Rattle.jpeg.specs.Bodies.{bodyEnd};
+ghost use Rattle.jpeg.specs.Segments.{leadAt};
 use crate::marker::APP1;
 use crate::marker::PREFIX;
 use crate::marker::ends_search;
@@ -16,7 +17,7 @@ use boxes::Refusal;
 const EXIF: u32 = 0x45786966;
 
 // How many bytes that is: the block stands behind them.
-const EXIF_ID: usize = 6;
+const NAME_SIZE: usize = 6;
 
 // How many bytes stand before a body: the marker's and the two of the length.
 const HEAD: usize = 3;
@@ -27,7 +28,7 @@ fn is_exif(marker: u8, body: &[u8]) -> bool
     if marker != APP1 {
         return false;
     }
-    if body.len() < EXIF_ID {
+    if body.len() < NAME_SIZE {
         return false;
     }
     endian::loadu32(body, 0) == EXIF && endian::loadu16(body, 4) == 0
@@ -42,7 +43,7 @@ enum Body {
 // Of the segment whose marker byte stands at `at`. The length counts its own two bytes. No sum is made before it is known to be inside the image.
 fn body_end(image: &[u8], at: usize) -> Body
     requires { ⌜ at < length (now image) ⌝ }
-    ensures { λ r. ⌜ bodyOf r ≡ bodyTo (now (image .entry)) at ⌝ }
+    ensures { λ r. ⌜ bodyOf r ≡ bodyEnd (now (image .entry)) at ⌝ }
 {
     if image.len() - at < HEAD {
         return Body::Refused(Refusal::ImageEnds);
@@ -64,6 +65,7 @@ pub(crate) enum Next {
     Refused(Refusal),
 }
 
+// The segment at `start`, by its FF bytes, its marker and, for most, its length.
 pub(crate) fn read_segment(image: &[u8], start: usize) -> Next
     requires { ⌜ start < length (now image) ⌝ }
     ensures { λ r. ⌜ nextOf r ≡ leadAt (now (image .entry)) start ⌝ }
@@ -88,7 +90,7 @@ pub(crate) fn read_segment(image: &[u8], start: usize) -> Next
             let from = at + HEAD;
             if is_exif(marker, &image[from..to]) {
                 return Next::Block {
-                    from: from + EXIF_ID,
+                    from: from + NAME_SIZE,
                     to: to,
                 };
             }

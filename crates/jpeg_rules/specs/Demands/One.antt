@@ -1,7 +1,7 @@
 -- Demand 1: a refusal changes no byte of the output, success changes the block's bytes only, and the room refusal is given exactly when the block is
 -- longer than the buffer: the theorems for every format, said of these. How large length and number can be. And that a block stands behind
 -- `Exif` and two zero bytes in the E1 segment that ended the search.
-use mathlib.Core.Path.{_≡_, refl, sym}
+use mathlib.Core.Path.{_≡_, sym}
 use Prim.Native.Nat.{ℕ, _≤_}
 use native.Mathlib.Nat.{le-trans}
 use native.Mathlib.Omega.{arith}
@@ -9,11 +9,12 @@ use mathlib.Core.Bool.{Bool, true, false}
 use mathlib.Core.List.{List}
 use lib.ListN.{length}
 use lib.Dec.{lit≤}
-use Rattle.rules.specs.Doc.Outcomes.{if_then_else_, fine, refused, require}
-use Rattle.rules.specs.Doc.Walks.{End, ended, cutAt, refusedAt, stoppedAt}
+use Rattle.rules.specs.Doc.Outcomes.{if_then_else_, fine, require}
+use Rattle.rules.specs.Doc.Bytes.{positions, sizeOf}
+use Rattle.rules.specs.Doc.Walks.{ended, stoppedAt}
 use Rattle.rules.specs.Doc.Block.{block}
 use Rattle.rules.specs.Doc.Heif.{isHeif}
-use Rattle.rules.specs.Laws.Rows.{apart, bind-fine}
+use Rattle.rules.specs.Laws.Rows.{bind-fine}
 use Rattle.rules.specs.Laws.Endian.{Bytes}
 use Rattle.rules.specs.Laws.Limit.{block-limit}
 use Rattle.rules.specs.Demands.One as every
@@ -22,7 +23,7 @@ use Rattle.jpeg_rules.specs.Doc.Segments.{Segment, isExif, segments}
 use Rattle.jpeg_rules.specs.Doc.Block.{isJpeg, behindName, found, jpegBlock, jpegAnswer}
 use Rattle.jpeg_rules.specs.Doc.Photo.{photoBlock, photoAnswer}
 use Rattle.jpeg_rules.specs.Laws.Numbers.{jpeg-early, photo-early, photo-most}
-use Rattle.jpeg_rules.specs.Laws.Limit.{jpeg-limit}
+use Rattle.jpeg_rules.specs.Laws.Limit.{found-behind, jpeg-limit}
 
 -- ---- JPEG
 
@@ -48,23 +49,16 @@ pub record Holds (img ps : List ℕ) : Type 0 where
   pub segment : Segment
   pub ended-search : segments img .end ≡ stoppedAt segment
   pub exif : isExif img segment ≡ true
-  pub behind : ps ≡ behindName segment
+  pub behind : ps ≡ positions (behindName segment .from) (sizeOf (behindName segment))
 
 pub block-held : (img : List ℕ) {ps : List ℕ} → jpegBlock img ≡ fine ps → Holds img ps
-unfolding jpegBlock found
+unfolding jpegBlock
 block-held img {ps} e =
     let (u, f, g) = bind-fine (require (isJpeg img) 31) _ (sym e) in
-    go (segments img .end) refl g
-  where
-    go : (end : End Segment) → segments img .end ≡ end → fine ps ≡ found img end → Holds img ps
-    go ended f g = absurd (apart g)
-    go (cutAt n at) f g = absurd (apart g)
-    go (refusedAt n x) f g = absurd (apart g)
-    go (stoppedAt x) f g = by (isExif img x) refl g
-      where
-        by : (t : Bool) → isExif img x ≡ t → fine ps ≡ (if t then fine (behindName x) else refused 1) → Holds img ps
-        by false k g = absurd (apart g)
-        by true k g = record { segment = x; ended-search = f; exif = k; behind = cc }
+    let (p, h, i) = bind-fine (found img (segments img .end)) _ g in
+    let (x, end, exif, z) = found-behind img h in
+    let y : ps ≡ positions (p .from) (sizeOf p) = cc in
+    record { segment = x; ended-search = end; exif = exif; behind = rw (← z) y }
 
 -- ---- The entry above both formats
 

@@ -7,8 +7,8 @@ use mathlib.Core.List.{List, _++_}
 use lib.ListN.{length}
 use lib.Dec.{leb, eqb}
 use borrow.Author.Tests.{leb-true}
-use Rattle.rules.specs.Doc.Outcomes.{if_then_else_, Outcome, require, once, isFine}
-use Rattle.rules.specs.Doc.Bytes.{numberAt}
+use Rattle.rules.specs.Doc.Outcomes.{if_then_else_, Outcome, fine, _>>=_, require, once, isFine}
+use Rattle.rules.specs.Doc.Bytes.{numberAt, positions, Span, sizeOf}
 use Rattle.rules.specs.Doc.Walks.{End, ended, cutAt, refusedAt, stoppedAt, Walk}
 use Rattle.rules.specs.Doc.Headers.{Box}
 use Rattle.rules.specs.Doc.Levels.{boxes}
@@ -21,7 +21,7 @@ use Rattle.rules.specs.Laws.Agreement.{agree-left, agree-right, range-of, numbe
 use Rattle.rules.specs.Laws.SameBoxes.{boxes-same}
 use Rattle.rules.specs.Demands.Three.{answers-same, quiet}
 use Rattle.jpeg_rules.specs.Doc.Segments.{Segment, isExif, segments}
-use Rattle.jpeg_rules.specs.Doc.Block.{isJpeg, found, jpegBlock, jpegAnswer}
+use Rattle.jpeg_rules.specs.Doc.Block.{isJpeg, blockIn, found, jpegBlock, jpegAnswer}
 use Rattle.jpeg_rules.specs.Doc.Consulted.{startBytes, testedBytes, segmentBytes, jpegConsulted}
 use Rattle.jpeg_rules.specs.Doc.Photo.{photoBlock, photoAnswer, photoConsulted}
 use Rattle.jpeg_rules.specs.Laws.SameSegments.{segments-same}
@@ -42,7 +42,7 @@ module _ (a b : List ℕ) (e : length a ≡ length b) where
 
   -- the segment that ended the walk is an Exif segment in both, or in neither
   found-same : segments a ≡ segments b → found a (segments a .end) ≡ found b (segments b .end)
-  unfolding found
+  unfolding found blockIn
   found-same w = go (segments a .end) refl ∙ ap (λ (w : Walk Segment). found b (w .end)) w
     where
       go : (end : End Segment) → segments a .end ≡ end → found a end ≡ found b end
@@ -62,8 +62,11 @@ module _ (a b : List ℕ) (e : length a ≡ length b) where
       → jpegBlock a ≡ jpegBlock b
   unfolding jpegBlock
   jpeg-same g h =
-      once-same a b (λ u. walkBytes (segmentBytes a) (testedBytes a) (segments a)) (λ u. found a (segments a .end)) (λ u. found b (segments b .end))
-      (λ u. search-same) (require (isJpeg a) 31) (require (isJpeg b) 31) h (ap (λ (t : Bool). require t 31) (start-same g))
+      once-same a b (λ u. walkBytes (segmentBytes a) (testedBytes a) (segments a)) (λ u. placed (found a (segments a .end))) (λ u. placed (found b (segments b .end)))
+      (λ u k. ap placed (search-same k)) (require (isJpeg a) 31) (require (isJpeg b) 31) h (ap (λ (t : Bool). require t 31) (start-same g))
+    where
+      placed : Outcome Span → Outcome (List ℕ)
+      placed o = o >>= λ p. fine (positions (p .from) (sizeOf p))
 
   pub jpeg-quiet : (out : List ℕ) → Agree a b (jpegConsulted a (length out)) → jpegAnswer a out ≡ jpegAnswer b out
   unfolding jpegConsulted

@@ -8,13 +8,13 @@ use mathlib.Core.List.{List}
 use lib.ListN.{length}
 use lib.Dec.{leb, ltb, eqb}
 use Rattle.rules.specs.Doc.Outcomes.{if_then_else_, fine, refused, _>>=_, require}
-use Rattle.rules.specs.Doc.Bytes.{byteAt, numberAt, positions, sizeOf}
+use Rattle.rules.specs.Doc.Bytes.{byteAt, numberAt, positions, Span, sizeOf}
 use Rattle.rules.specs.Doc.Walks.{End, ended, cutAt, refusedAt, stoppedAt}
 use Rattle.rules.specs.Laws.Rows.{apart, bind-fine}
 use Rattle.rules.specs.Laws.Numbers.{number-below}
 use Rattle.rules.specs.Laws.Endian.{Bytes}
 use Rattle.jpeg_rules.specs.Doc.Segments.{fill, endsSearch, lacksLength, markerAt, Segment, bodyAt, body, sizeAt, sizeRead, segmentAt, isExif, segments}
-use Rattle.jpeg_rules.specs.Doc.Block.{isJpeg, behindName, found, jpegBlock}
+use Rattle.jpeg_rules.specs.Doc.Block.{isJpeg, behindName, blockIn, found, jpegBlock}
 use Rattle.jpeg_rules.specs.Laws.Stopped.{stopped-read}
 
 positions-length : (at n : ℕ) → length (positions at n) ≡ n
@@ -46,29 +46,42 @@ module _ (s : List ℕ) where
       let z : x .size ≡ size′ = cc in
       read-small at (byteAt s at) size b (rw (← f, z) k)
 
-  name-limit : (x : Segment) → ((size : ℕ) → x .size ≡ some size → size < 65536) → length (behindName x) ≤ 65527
+  name-limit : (x : Segment) → ((size : ℕ) → x .size ≡ some size → size < 65536) → sizeOf (behindName x) ≤ 65527
   unfolding behindName body bodyAt
-  name-limit x h = rw (positions-length (body x .from + 6) (sizeOf (body x) - 6)) (go (x .size) h)
+  name-limit x h = go (x .size) h
     where
-      go : (o : Option ℕ) → ((size : ℕ) → o ≡ some size → size < 65536) → sizeOf (bodyAt (x .at) o) - 6 ≤ 65527
+      go : (o : Option ℕ) → ((size : ℕ) → o ≡ some size → size < 65536) → bodyAt (x .at) o .to - (bodyAt (x .at) o .from + 6) ≤ 65527
       go none h = omega arith
       go (some size) h = omega (arith, h size refl)
 
+  -- where a block lies, it lies behind the name in the segment that ended the search
+  pub found-behind : {p : Span} → fine p ≡ found s (segments s .end)
+      → (x : Segment) × (segments s .end ≡ stoppedAt x) × (isExif s x ≡ true) × (p ≡ behindName x)
+  unfolding found blockIn
+  found-behind {p} e = go (segments s .end) refl e
+    where
+      go : (end : End Segment) → segments s .end ≡ end → fine p ≡ found s end
+          → (x : Segment) × (segments s .end ≡ stoppedAt x) × (isExif s x ≡ true) × (p ≡ behindName x)
+      go ended f g = absurd (apart g)
+      go (cutAt n at) f g = absurd (apart g)
+      go (refusedAt n x) f g = absurd (apart g)
+      go (stoppedAt x) f g = by (isExif s x) refl g
+        where
+          by : (t : Bool) → isExif s x ≡ t → fine p ≡ (if t then fine (behindName x) else refused 1)
+              → (x : Segment) × (segments s .end ≡ stoppedAt x) × (isExif s x ≡ true) × (p ≡ behindName x)
+          by false k g = absurd (apart g)
+          by true k g = (x, f, k, cc)
+
+  found-limit : {p : Span} → Bytes s → fine p ≡ found s (segments s .end) → sizeOf p ≤ 65527
+  found-limit {p} b e =
+      let (x, f, k, z) = found-behind e in
+      let (at, h, i) = stopped-read s x f in
+      rw z (name-limit x (λ size j. segment-small at x b h j))
+
 pub jpeg-limit : (img : List ℕ) → Bytes img → {ps : List ℕ} → jpegBlock img ≡ fine ps → length ps ≤ 65527
-unfolding jpegBlock segments found
+unfolding jpegBlock
 jpeg-limit img b {ps} e =
     let (u, f, g) = bind-fine (require (isJpeg img) 31) _ (sym e) in
-    go (segments img .end) refl g
-  where
-    go : (end : End Segment) → segments img .end ≡ end → fine ps ≡ found img end → length ps ≤ 65527
-    go ended f g = absurd (apart g)
-    go (cutAt n at) f g = absurd (apart g)
-    go (refusedAt n x) f g = absurd (apart g)
-    go (stoppedAt x) f g = by (isExif img x) g
-      where
-        by : (t : Bool) → fine ps ≡ (if t then fine (behindName x) else refused 1) → length ps ≤ 65527
-        by false g = absurd (apart g)
-        by true g =
-            let (p, h, i) = stopped-read img x f in
-            let z : ps ≡ behindName x = cc in
-            rw z (name-limit img x (λ size k. segment-small img p x b h k))
+    let (p, h, i) = bind-fine (found img (segments img .end)) _ g in
+    let z : ps ≡ positions (p .from) (sizeOf p) = cc in
+    rw (z, positions-length (p .from) (sizeOf p)) (found-limit img b h)

@@ -20,7 +20,7 @@ use Rattle.rules.specs.Laws.Numbered.{Within, went, with-number, row, require-n
 use Rattle.rules.specs.Laws.Room.{NeitherNumber, Early}
 use Rattle.rules.specs.Laws.Refusals.{InTable, in-table-early, in-table-most, block-numbered}
 use Rattle.jpeg_rules.specs.Doc.Segments.{fill, endsSearch, lacksLength, markerAt, Segment, body, sizeAt, sizeRead, segmentAt, isExif, sizeTest, said, segmentMet, segmentStep, segments}
-use Rattle.jpeg_rules.specs.Doc.Block.{isJpeg, found, jpegBlock}
+use Rattle.jpeg_rules.specs.Doc.Block.{isJpeg, blockIn, found, jpegBlock}
 use Rattle.jpeg_rules.specs.Doc.Photo.{photoBlock}
 
 abbrev pub InJpegTable : ℕ → Type 0
@@ -66,7 +66,7 @@ unfolding segmentStep
 step-numbered s at = by-test (WithinStep InJpegTable) (leb (length s) at) (λ e. at-end) (λ e. met-numbered s (segmentAt s at) (segment-numbered s at))
 
 found-numbered : (img : List ℕ) (e : End Segment) → WithinEnd InJpegTable e → JpegNumbered (found img e)
-unfolding found
+unfolding found blockIn
 found-numbered img ended p = with-number tt
 found-numbered img (cutAt n at) (in-cut p) = with-number p
 found-numbered img (refusedAt n x) (in-thing p) = with-number p
@@ -77,7 +77,7 @@ found-numbered img (stoppedAt x) p = either (isExif img x) _ _ went (with-number
 pub jpeg-numbered : (img : List ℕ) → JpegNumbered (jpegBlock img)
 unfolding jpegBlock segments
 jpeg-numbered img =
-    row _ _ (require-numbered (isJpeg img) 31 tt) (λ u. found-numbered img (segments img .end) (run-numbered (segmentStep img) (step-numbered img) (length img) 2))
+    row _ _ (require-numbered (isJpeg img) 31 tt) (λ u. row _ _ (found-numbered img (segments img .end) (run-numbered (segmentStep img) (step-numbered img) (length img) 2)) (λ p. went))
 
 jpeg-table-early : (n : ℕ) → InJpegTable n → NeitherNumber n
 jpeg-table-early n p = (λ e. rw e at p, λ e. rw e at p)

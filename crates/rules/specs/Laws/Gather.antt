@@ -1,6 +1,7 @@
 -- Steps 9 and 10 over bytes, as a program does them, where document 01's definitions have positions in the image: the two say the same.
-use mathlib.Core.Path.{_≡_, refl, ap, _∙_}
+use mathlib.Core.Path.{_≡_, refl, sym, ap, _∙_}
 use Prim.Native.Nat.{ℕ, zero, suc, _+_, _-_, _≤_, _<_}
+use native.Mathlib.Nat.{zero-add}
 use native.Mathlib.Omega.{arith}
 use mathlib.Core.Bool.{Bool, true, false}
 use mathlib.Core.List.{List, [], _∷_, _++_, map}
@@ -49,7 +50,7 @@ abbrev StandsFrom : List ℕ → ℕ → List ℕ → Type 0
 StandsFrom img origin s = (i : ℕ) → i < length s → byteAt s i ≡ byteAt img (origin + i)
 
 module _ (img : List ℕ) (source : Span) (s : List ℕ) (stands : StandsFrom img (source .from) s) where
-  pub positions-bytes : (from n : ℕ) → from + n ≤ length s → bytesAt img (positions (source .from + from) n) ≡ part s from n
+  positions-bytes : (from n : ℕ) → from + n ≤ length s → bytesAt img (positions (source .from + from) n) ≡ part s from n
   unfolding bytesAt positions
   positions-bytes from zero h = refl
   positions-bytes from (suc n) h =
@@ -101,6 +102,12 @@ module _ (img : List ℕ) (source : Span) (s : List ℕ) (stands : StandsFrom im
     unfolding join totalFrom gathered each bare outcome bytesAt
     join-bytes k total [] = refl
     join-bytes k total (x ∷ xs) = placed-bytes k total x xs (place x) refl (λ t. join place (suc k) t xs) (λ t. join-bytes (suc k) t xs)
+
+-- of the image itself
+pub image-bytes : (img : List ℕ) (from n : ℕ) → from + n ≤ length img → bytesAt img (positions from n) ≡ part img from n
+image-bytes img from n h =
+    ap (λ (at : ℕ). bytesAt img (positions at n)) (sym (zero-add from))
+    ∙ positions-bytes img (record { from = 0; to = length img }) img (λ i k. ap (byteAt img) (sym (zero-add i))) from n h
 
 -- ---- The block
 

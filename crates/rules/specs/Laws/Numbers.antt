@@ -1,19 +1,26 @@
 -- How large a number of n bytes can be, when a field is read and when it is refused, and the bytes of a span that fits.
-use mathlib.Core.Path.{_≡_, sym}
+use mathlib.Core.Path.{_≡_, sym, ap, _∙_}
 use mathlib.Core.List.{List}
 use Prim.Native.Nat.{ℕ, _+_, _^_, _≤_, _<_}
+use native.Mathlib.Nat.{add-zero}
 use native.Mathlib.Omega.{arith}
 use lib.ListN.{length, take, length-take, length-drop}
 use lib.Seq.{length-take-le}
 use borrow.Author.Tests.{le-leb, lt-leb, ne-eqb}
 use Rattle.rules.specs.Doc.Outcomes.{fine, refused}
-use Rattle.rules.specs.Doc.Endian.{big}
+use Rattle.rules.specs.Doc.Endian.{big, numberIn}
 use Rattle.rules.specs.Doc.Bytes.{numberAt, part, Span, sizeOf, bytesIn, field, sized}
-use Rattle.rules.specs.Laws.Endian.{Bytes, number-big, number-in-below}
+use Rattle.rules.specs.Laws.Endian.{Bytes, number-big, number-in-below, number-in-part}
 
 -- n bytes make a number below 256 to the n
 pub number-below : (s : List ℕ) (at n : ℕ) → Bytes s → numberAt s at n < 256 ^ n
 number-below s at n b = rw (← number-big s at n) (number-in-below big s at n b)
+
+-- the number at the front of a part is that of the whole, where the part begins
+pub number-part : (s : List ℕ) (from size n : ℕ) → n ≤ size → numberAt (part s from size) 0 n ≡ numberAt s from n
+number-part s from size n h =
+    rw (← number-big (part s from size) 0 n, ← number-big s from n)
+    (number-in-part big s from size 0 n (omega arith) ∙ ap (λ (at : ℕ). numberIn big s at n) (add-zero from))
 
 -- a field that fits, and one that doesn't
 pub field-in : (s : List ℕ) (at n : ℕ) {v : ℕ} → at + n ≤ length s → v ≡ numberAt s at n → fine v ≡ field s at n

@@ -1,12 +1,11 @@
 -- Bytes laid over an output, as many as there is room for (`sets` of the kit): what a copy over several parts follows.
 use mathlib.Core.Path.{_≡_, refl, sym, ap, _∙_}
-use Prim.Native.Nat.{ℕ, zero, suc, _+_, _-_, _≤_, _<_}
+use Prim.Native.Nat.{ℕ, zero, suc, _+_, _-_, _≤_}
 use native.Mathlib.Omega.{arith}
-use native.Mathlib.Numerals.{add-one}
 use native.Mathlib.Nat.{add-zero, zero-sub, sub-zero}
 use mathlib.Core.List.{List, [], _∷_, _++_}
-use lib.ListN.{length, take, drop, getD, set}
-use lib.Seq.{take-all, take-nil, drop-cons, drop-nil, set-out, sets}
+use lib.ListN.{length, take, drop, set}
+use lib.Seq.{take-all, take-nil, drop-nil, set-out, sets}
 use Rattle.rules.specs.Doc.Outcomes.{Outcome}
 use Rattle.rules.specs.Doc.Lists.{each}
 use Rattle.rules.specs.Doc.Bytes.{numberAt, Span}
@@ -17,11 +16,6 @@ use Rattle.rules.specs.OverBytes.{partOf, gathered}
 pub over-full : (out : List ℕ) (at : ℕ) (bs : List ℕ) → length out ≤ at → sets out at bs ≡ out
 over-full out at [] h = refl
 over-full out at (b ∷ bs) h = rw (set-out out at b h) (over-full out (suc at) bs (omega arith))
-
--- one byte more of s is written
-pub over-more : (out : List ℕ) (at i : ℕ) (s rest : List ℕ) → i < length s
-    → sets (set out at (getD s i 0)) (at + 1) (drop (i + 1) s ++ rest) ≡ sets out at (drop i s ++ rest)
-over-more out at i s rest h = rw (add-one at, drop-cons s i 0 h, add-one i)
 
 -- two parts, one behind the other
 pub over-append : (a b out : List ℕ) (at : ℕ) → sets out at (a ++ b) ≡ sets (sets out at a) (at + length a) b

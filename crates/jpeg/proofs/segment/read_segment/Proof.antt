@@ -2,7 +2,8 @@
 use mathlib.Core.Path.{_≡_}
 use native.Mathlib.Omega.{arith}
 use Rattle.rules.specs.Doc.Outcomes.{fine}
-use Rattle.jpeg.specs.Segments.{bodyTo, to-inside, lead-unmarked, lead-cut, lead-ends, lead-bare, lead-refused, lead-block, lead-on}
+use Rattle.jpeg.specs.Bodies.{bodyEnd, end-lies}
+use Rattle.jpeg.specs.Segments.{lead-unmarked, lead-cut, lead-ends, lead-bare, lead-refused, lead-block, lead-on}
 use borrow.Author.Needs.{needs}
 use Rattle.jpeg.proofs.segment.read_segment.Statement.{statement}
 use Rattle.jpeg.proofs.segment.read_segment.Tie as tie
@@ -52,17 +53,17 @@ add-from c = search needs
 -- where the body ends, and that it lies in the image
 ends : (c : tie.After-to)
     → let marked = c .before .before .before .before .before .before .before .before .before in
-    fine (c .to .given .0 .0) ≡ bodyTo (marked .before .before .before .before .args .image .now) (marked .marker-at .result)
+    fine (c .to .given .0 .0) ≡ bodyEnd (marked .before .before .before .before .args .image .now) (marked .marker-at .result)
 ends c = rw (c .to .given .1) at (c .before .before .body-end .ensures)
 
 sub-is-exif : tie.Need-sub-is-exif
-sub-is-exif c = to-inside _ _ (ends (c .before)) .order
+sub-is-exif c = end-lies _ _ (ends (c .before)) .order
 
 part-is-exif-start : tie.Need-part-is-exif-start
-part-is-exif-start c = omega (arith, to-inside _ _ (ends (c .before)) .order)
+part-is-exif-start c = omega (arith, end-lies _ _ (ends (c .before)) .order)
 
 part-is-exif-end : tie.Need-part-is-exif-end
-part-is-exif-end c = to-inside _ _ (ends (c .before)) .inner
+part-is-exif-end c = end-lies _ _ (ends (c .before)) .inner
 
 is-exif-requires : tie.Need-is-exif-requires
 is-exif-requires c κs = search needs
