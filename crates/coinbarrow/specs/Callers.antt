@@ -1,6 +1,6 @@
 -- What include/coinbarrow.h tells callers of the number and of the text, for every call, from the contracts alone: `r` is what a call gives back,
 -- `after` the output after it.
-use mathlib.Core.Path.{_≡_, ap, _∙_}
+use mathlib.Core.Path.{_≡_, sym, ap, _∙_}
 use Prim.Native.Nat.{ℕ, _+_, _*_, _/_, _%_, _^_, _≤_, _<_}
 use native.Mathlib.Omega.{arith}
 use mathlib.Core.List.{List, _++_, append-nil}
@@ -14,7 +14,7 @@ use Rattle.rules.specs.Demands.One.{length-limit, number-limit, always-room}
 use Rattle.rules.specs.Laws.Endian.{Bytes}
 use Rattle.rules.specs.Laws.ListingLength.{listing-length}
 use Rattle.jpeg_rules.specs.Doc.Photo.{photoAnswer}
-use Rattle.jpeg_rules.specs.Demands.One.{photo-length, photo-number, photo-room}
+use Rattle.jpeg_rules.specs.Demands.One.{photo-length, photo-number, photo-never-31, photo-room}
 use Rattle.listing.specs.Whole.{too-long}
 use Rattle.coinbarrow.specs.Halves.{unpacked}
 
@@ -42,10 +42,13 @@ module _ (img out : List ℕ) (r : ℕ) (after : List ℕ) (meets : unpacked r a
   pub enough-room : 65531 ≤ length out → r / 2 ^ 32 ≡ 28 → ⊥
   enough-room h e = always-room img out h (omega (arith, upper (answer img out) r after meets))
 
--- Of HEIF or JPEG: the upper half is at most 33; the rest is the same, of an image that is made of bytes.
+-- Of HEIF or JPEG: the upper half is at most 33, and never 31; the rest is the same, of an image that is made of bytes.
 module _ (img out : List ℕ) (r : ℕ) (after : List ℕ) (meets : unpacked r after ≡ photoAnswer img out) where
   pub photo-upper-limit : r / 2 ^ 32 ≤ 33
   photo-upper-limit = omega (arith, upper (photoAnswer img out) r after meets, photo-number img out)
+
+  pub photo-upper-never-31 : r / 2 ^ 32 ≡ 31 → ⊥
+  photo-upper-never-31 e = photo-never-31 img out (sym (upper (photoAnswer img out) r after meets) ∙ e)
 
   pub photo-lower-limit : Bytes img → r % 2 ^ 32 ≤ 65531
   photo-lower-limit b = omega (arith, lower (photoAnswer img out) r after meets, photo-length img out b)

@@ -22,7 +22,7 @@ use Rattle.rules.specs.Demands.One.{Longer, Written}
 use Rattle.jpeg_rules.specs.Doc.Segments.{Segment, isExif, segments}
 use Rattle.jpeg_rules.specs.Doc.Block.{isJpeg, behindName, found, jpegBlock, jpegAnswer}
 use Rattle.jpeg_rules.specs.Doc.Photo.{photoBlock, photoAnswer}
-use Rattle.jpeg_rules.specs.Laws.Numbers.{jpeg-early, photo-early, photo-most}
+use Rattle.jpeg_rules.specs.Laws.Numbers.{jpeg-early, photo-early, photo-most, photo-not-31}
 use Rattle.jpeg_rules.specs.Laws.Limit.{found-behind, jpeg-limit}
 
 -- ---- JPEG
@@ -81,3 +81,7 @@ module _ (img out : List ℕ) where
   -- No number is above 33.
   pub photo-number : photoAnswer img out .number ≤ 33
   photo-number = every.number-within img out 33 (omega arith) (photoBlock img) (photo-most img)
+
+  -- 31 is the JPEG reader's alone: what doesn't start FF D8 is asked of the HEIF reader.
+  pub photo-never-31 : photoAnswer img out .number ≡ 31 → ⊥
+  photo-never-31 e = every.never img out 31 (λ z. omega arith) (λ z. omega arith) (photoBlock img) (photo-not-31 img) e

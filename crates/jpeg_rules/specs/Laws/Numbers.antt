@@ -1,14 +1,14 @@
--- Every step before the room refuses with a number of request three: 1, 2, or 31 to 33. Through the entry above both formats, with one of those or of
--- HEIF's.
+-- Every step before the room refuses with a number of request three: 31 for the start, 1, 2, 32 or 33 for the search. Through the entry above both
+-- formats, with one of the search or of HEIF's.
 use mathlib.Core.Path.{_≡_, refl}
 use Prim.Native.Nat.{ℕ, _+_, _≤_}
 use native.Mathlib.Omega.{arith}
-use mathlib.Core.Bool.{Bool, true, false, _&&_, _||_}
+use mathlib.Core.Bool.{Bool, true, false, _||_}
 use mathlib.Core.Logic.{_⊎_, inl, inr, ⊎-elim}
 use mathlib.Core.Option.{Option, none, some}
 use mathlib.Core.List.{List}
 use lib.ListN.{length}
-use lib.Dec.{T, leb, ltb, eqb, leb→le}
+use lib.Dec.{T, leb, ltb, eqb, eqb→eq}
 use borrow.Author.Tests.{eqb-true}
 use Rattle.rules.specs.Doc.Outcomes.{Outcome, fine, refused}
 use Rattle.rules.specs.Doc.Bytes.{byteAt}
@@ -23,49 +23,49 @@ use Rattle.jpeg_rules.specs.Doc.Segments.{fill, endsSearch, lacksLength,
 use Rattle.jpeg_rules.specs.Doc.Block.{isJpeg, blockIn, found, jpegBlock}
 use Rattle.jpeg_rules.specs.Doc.Photo.{photoBlock}
 
-abbrev pub InJpegTable : ℕ → Type 0
-InJpegTable n = T (eqb n 1 || (eqb n 2 || (leb 31 n && leb n 33)))
+abbrev pub InSearchTable : ℕ → Type 0
+InSearchTable n = T (eqb n 1 || (eqb n 2 || (eqb n 32 || eqb n 33)))
 
-abbrev pub JpegNumbered : {A : Type 0} → Outcome A → Type 0
-JpegNumbered = Within InJpegTable
+abbrev SearchNumbered : {A : Type 0} → Outcome A → Type 0
+SearchNumbered = Within InSearchTable
 
 -- ---- Segments
 
-size-numbered : (s : List ℕ) (at : ℕ) → JpegNumbered (sizeAt s at)
+size-numbered : (s : List ℕ) (at : ℕ) → SearchNumbered (sizeAt s at)
 unfolding sizeAt
 size-numbered s at = row _ _ (require-numbered (leb (at + 3) (length s)) 2 tt) (λ u. went)
 
-read-numbered : (s : List ℕ) (at marker : ℕ) → JpegNumbered (sizeRead s at marker)
+read-numbered : (s : List ℕ) (at marker : ℕ) → SearchNumbered (sizeRead s at marker)
 unfolding sizeRead
 read-numbered s at marker = either (endsSearch marker || lacksLength marker) _ _ went (row _ _ (size-numbered s at) (λ size. went))
 
-segment-numbered : (s : List ℕ) (start : ℕ) → JpegNumbered (segmentAt s start)
+segment-numbered : (s : List ℕ) (start : ℕ) → SearchNumbered (segmentAt s start)
 unfolding segmentAt
 segment-numbered s start =
     row _ _ (require-numbered (eqb (byteAt s start) fill) 32 tt) (λ u. row _ _ (require-numbered (ltb (markerAt s start) (length s)) 2 tt)
     (λ v. row _ _ (read-numbered s (markerAt s start) (byteAt s (markerAt s start))) (λ size. went)))
 
-test-numbered : (size : Option ℕ) → JpegNumbered (sizeTest size)
+test-numbered : (size : Option ℕ) → SearchNumbered (sizeTest size)
 unfolding sizeTest
 test-numbered none = went
 test-numbered (some size) = require-numbered (leb 2 size) 33 tt
 
-said-numbered : (s : List ℕ) (x : Segment) → JpegNumbered (said s x)
+said-numbered : (s : List ℕ) (x : Segment) → SearchNumbered (said s x)
 unfolding said
 said-numbered s x = row _ _ (test-numbered (x .size)) (λ u. row _ _ (require-numbered (leb (body x .to) (length s)) 2 tt) (λ v. went))
 
 -- ---- The walk
 
-met-numbered : (s : List ℕ) (o : Outcome Segment) → JpegNumbered o → WithinStep InJpegTable (segmentMet s o)
+met-numbered : (s : List ℕ) (o : Outcome Segment) → SearchNumbered o → WithinStep InSearchTable (segmentMet s o)
 unfolding segmentMet
 met-numbered s (fine x) p = at-thing (said-numbered s x)
 met-numbered s (refused n) (with-number p) = at-cut p
 
-step-numbered : (s : List ℕ) (at : ℕ) → WithinStep InJpegTable (segmentStep s at)
+step-numbered : (s : List ℕ) (at : ℕ) → WithinStep InSearchTable (segmentStep s at)
 unfolding segmentStep
-step-numbered s at = by-test (WithinStep InJpegTable) (leb (length s) at) (λ e. at-end) (λ e. met-numbered s (segmentAt s at) (segment-numbered s at))
+step-numbered s at = by-test (WithinStep InSearchTable) (leb (length s) at) (λ e. at-end) (λ e. met-numbered s (segmentAt s at) (segment-numbered s at))
 
-found-numbered : (img : List ℕ) (e : End Segment) → WithinEnd InJpegTable e → JpegNumbered (found img e)
+found-numbered : (img : List ℕ) (e : End Segment) → WithinEnd InSearchTable e → SearchNumbered (found img e)
 unfolding found blockIn
 found-numbered img ended p = with-number tt
 found-numbered img (cutAt n at) (in-cut p) = with-number p
@@ -74,49 +74,65 @@ found-numbered img (stoppedAt x) p = either (isExif img x) _ _ went (with-number
 
 -- ---- The block
 
-pub jpeg-numbered : (img : List ℕ) → JpegNumbered (jpegBlock img)
-unfolding jpegBlock segments
-jpeg-numbered img =
-    row _ _ (require-numbered (isJpeg img) 31 tt) (λ u. row _ _ (found-numbered img (segments img .end) (run-numbered (segmentStep img) (step-numbered img) (length img) 2)) (λ p. went))
+search-numbered : (img : List ℕ) → SearchNumbered (found img (segments img .end))
+unfolding segments
+search-numbered img = found-numbered img (segments img .end) (run-numbered (segmentStep img) (step-numbered img) (length img) 2)
 
-jpeg-table-early : (n : ℕ) → InJpegTable n → NeitherNumber n
-jpeg-table-early n p = (λ e. rw e at p, λ e. rw e at p)
+abbrev pub InJpegTable : ℕ → Type 0
+InJpegTable n = (n ≡ 31) ⊎ InSearchTable n
+
+pub jpeg-numbered : (img : List ℕ) → Within InJpegTable (jpegBlock img)
+unfolding jpegBlock
+jpeg-numbered img =
+    row _ _ (require-numbered (isJpeg img) 31 (inl refl)) (λ u. row _ _ (within-larger (λ n p. inr p) _ (search-numbered img)) (λ p. went))
+
+search-early : (n : ℕ) → InSearchTable n → NeitherNumber n
+search-early n p = (λ e. rw e at p, λ e. rw e at p)
 
 pub jpeg-early : (img : List ℕ) → Early (jpegBlock img)
-jpeg-early img = within-larger jpeg-table-early (jpegBlock img) (jpeg-numbered img)
+jpeg-early img = within-larger (λ n p. ⊎-elim (λ e. (λ z. omega arith, λ z. omega arith)) (search-early n) p) (jpegBlock img) (jpeg-numbered img)
 
 -- ---- Both formats
 
 abbrev pub InEitherTable : ℕ → Type 0
-InEitherTable n = InTable n ⊎ InJpegTable n
+InEitherTable n = InTable n ⊎ InSearchTable n
+
+-- what starts FF D8 is not refused for its start
+started-numbered : (img : List ℕ) → isJpeg img ≡ true → Within InEitherTable (jpegBlock img)
+unfolding jpegBlock
+started-numbered img e = rw e (row _ _ (within-larger (λ n p. inr p) _ (search-numbered img)) (λ p. went))
 
 pub photo-numbered : (img : List ℕ) → Within InEitherTable (photoBlock img)
 unfolding photoBlock
-photo-numbered img = either (isHeif img) _ _ heif (either (isJpeg img) _ _ jpeg heif)
+photo-numbered img = either (isHeif img) _ _ heif (by-test (Within InEitherTable) (isJpeg img) (started-numbered img) (λ e. heif))
   where
     heif : Within InEitherTable (block img)
     heif = within-larger (λ n p. inl p) (block img) (block-numbered img)
 
-    jpeg : Within InEitherTable (jpegBlock img)
-    jpeg = within-larger (λ n p. inr p) (jpegBlock img) (jpeg-numbered img)
-
 pub photo-early : (img : List ℕ) → Early (photoBlock img)
-photo-early img = within-larger (λ n p. ⊎-elim (in-table-early n) (jpeg-table-early n) p) (photoBlock img) (photo-numbered img)
+photo-early img = within-larger (λ n p. ⊎-elim (in-table-early n) (search-early n) p) (photoBlock img) (photo-numbered img)
 
--- none is above 33
+-- none is above 33, and none is 31
 table-most : (n : ℕ) → InEitherTable n → n ≤ 33
-table-most n p = ⊎-elim heif jpeg p
+table-most n p = ⊎-elim heif search p
   where
     heif : InTable n → n ≤ 33
     heif p = omega (arith, in-table-most n p)
 
-    jpeg : InJpegTable n → n ≤ 33
-    jpeg p = go (eqb n 1) (eqb n 2) refl refl p
+    search : InSearchTable n → n ≤ 33
+    search p = go (eqb n 1) (eqb n 2) (eqb n 32) refl refl refl p
       where
-        go : (a b : Bool) → eqb n 1 ≡ a → eqb n 2 ≡ b → T (a || (b || (leb 31 n && leb n 33))) → n ≤ 33
-        go true b e f p = omega (arith, eqb-true n 1 e)
-        go false true e f p = omega (arith, eqb-true n 2 f)
-        go false false e f p = leb→le n 33 (both (leb 31 n) (leb n 33) p .1)
+        go : (a b c : Bool) → eqb n 1 ≡ a → eqb n 2 ≡ b → eqb n 32 ≡ c → T (a || (b || (c || eqb n 33))) → n ≤ 33
+        go true b c e f g p = omega (arith, eqb-true n 1 e)
+        go false true c e f g p = omega (arith, eqb-true n 2 f)
+        go false false true e f g p = omega (arith, eqb-true n 32 g)
+        go false false false e f g p = omega (arith, eqb→eq n 33 p)
+
+not-31 : (n : ℕ) → InEitherTable n → n ≡ 31 → ⊥
+not-31 n p e = ⊎-elim (λ h. omega (arith, in-table-most n h)) (λ s. rw e at s) p
 
 pub photo-most : (img : List ℕ) → Within (λ n. n ≤ 33) (photoBlock img)
 photo-most img = within-larger table-most (photoBlock img) (photo-numbered img)
+
+pub photo-not-31 : (img : List ℕ) → Within (λ n. n ≡ 31 → ⊥) (photoBlock img)
+photo-not-31 img = within-larger not-31 (photoBlock img) (photo-numbered img)

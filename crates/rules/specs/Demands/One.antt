@@ -109,6 +109,16 @@ module _ (img out : List ℕ) where
       go true = omega arith
       go false = h
 
+  -- A number that neither success nor the room has, and that is not given before the room, is not given.
+  pub never : (k : ℕ) → (0 ≡ k → ⊥) → (28 ≡ k → ⊥) → (b : Outcome (List ℕ)) → Within (λ n. n ≡ k → ⊥) b → answerBy b img out .number ≡ k → ⊥
+  unfolding answerBy answerWith
+  never k z r (refused n) (with-number p) e = p e
+  never k z r (fine ps) p e = go (leb (length ps) (length out)) e
+    where
+      go : (t : Bool) → _≡_ {A = ℕ} (if t then 0 else 28) k → ⊥
+      go true e = z e
+      go false e = r e
+
   -- A buffer so long has room for every block.
   pub enough-room : (most : ℕ) (b : Outcome (List ℕ)) → Early b → ((ps : List ℕ) → b ≡ fine ps → length ps ≤ most)
       → most ≤ length out → answerBy b img out .number ≡ 28 → ⊥
