@@ -1,31 +1,16 @@
 // Answers a run of cases, one line each. A case on standard input is the image's length and the output's length, four bytes each, big-endian,
 // then the image. The output holds a5 everywhere before the call, so that the line shows what was written and what was left alone.
-mod line;
-
-ghost use Prim.Native.Nat.{_≤_};
-ghost use lib.ListN.{length};
+use answer_line::MOST_LINE;
+use answer_line::MOST_OUT;
 use case_reader::Next;
-use libc::STDOUT_FILENO;
 
 const MOST_IMAGE: usize = 1048576;
-
-const MOST_OUT: usize = 131072;
-
-// Two digits for each byte of the output, and the words around them.
-const MOST_LINE: usize = 262208;
-
-fn show(text: &[u8], n: usize) -> bool
-    requires { ⌜ n ≤ length (now text) ⌝ }
-{
-    io::write_all(STDOUT_FILENO, &text[..n])
-}
 
 // Whether to go on: the line of the case was written.
 fn answer(image: &[u8], out: &mut [u8], text: &mut [u8]) -> bool {
     case_reader::fill(0xa5, out);
     let answered = isobmff::get_exif_attr(image, out);
-    let n = line::of_answer(answered, brands::is_heif(image), out, text);
-    show(text, n)
+    answer_line::print_line(answered, b" heif=", brands::is_heif(image), out, text)
 }
 
 // Reads one case and answers it, and says whether to go on.

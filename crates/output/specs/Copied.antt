@@ -6,7 +6,7 @@ use Prim.Native.Nat.{ℕ, suc, _+_, _-_, _≤_, _<_}
 use native.Mathlib.Omega.{arith}
 use native.Mathlib.Numerals.{add-one}
 use lib.Dec.{leb}
-use lib.ListN.{length, take, drop, getD, set, length-set}
+use lib.ListN.{length, take, drop, getD, set, length-set, length-take, length-append}
 use lib.Seq.{length-sets, length-take-le, take-all, take-nil, drop-cons, sets}
 use borrow.Author.Tests.{leb-true, leb-false}
 use Rattle.rules.specs.Laws.Over.{over-full, over-append}
@@ -52,3 +52,15 @@ copied-then {bytes} {at} {end} {before} {after} c rest =
         let k = length-take-le (length before - at) bytes (omega (arith, more)) in
         over-full (sets before at bytes) end rest (omega (arith, c .place))
         ∙ sym (over-full (sets before at bytes) (at + length bytes) rest (omega (arith, more)))
+
+-- two parts, the second from where the first ended, are one
+pub copied-append : {a b : List ℕ} {at m end : ℕ} {before between after : List ℕ} → Copied a at before m between → Copied b m between end after
+    → Copied (a ++ b) at before end after
+copied-append {a} {b} {at} {m} {end} {before} {between} p q =
+    let n = rw (← p .buffer) at (length-sets before at a) in
+    let first = rw (length-take (length before - at) a) at (p .place) in
+    let second = rw (n, length-take (length before - m) b) at (q .place) in
+    record {
+      place = rw (length-take (length before - at) (a ++ b), length-append a b) (omega (arith, first, second));
+      buffer = q .buffer ∙ copied-then p b;
+    }

@@ -1,0 +1,4 @@
+-- The line of a case, laws about its parts, and that the contract determines it.
+pub mod Line
+pub mod Parts
+pub mod Unique
