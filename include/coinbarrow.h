@@ -1,5 +1,5 @@
 /*
- * Coinbarrow: the Exif block of a HEIF image, and a listing of its boxes. Link libcoinbarrow.a, which is for x86-64 Linux.
+ * Coinbarrow: the Exif block of a HEIF or JPEG image, and a listing of the boxes of a HEIF image. Link libcoinbarrow.a, which is for x86-64 Linux.
  *
  * Bytes are passed as a pointer and a length. Where a length is 0 the pointer isn't used, and may be null. `out` must not overlap `image`.
  * A call reads only the bytes of `image` and writes only the bytes of `out`. It allocates nothing and keeps nothing for later, so calls may run on
@@ -16,11 +16,12 @@
 extern "C" {
 #endif
 
-/* No block is longer than this: an output of so many bytes always has room. */
+/* No block is longer than this, of HEIF or of JPEG: an output of so many bytes always has room. */
 #define COINBARROW_LONGEST 65531
 
 /*
- * The Exif block of `image` goes to the front of `out`. The answer has a number and a length, which the two functions below take out of it.
+ * The Exif block of `image`, a HEIF image, goes to the front of `out`. The answer has a number and a length, which `coinbarrow_number` and
+ * `coinbarrow_length` take out of it.
  *
  *   0  done; the length is the block's, and `out` is unchanged behind it
  *  28  no room: `out` is shorter than the block; the length is the block's, and `out` is unchanged
@@ -39,7 +40,20 @@ extern "C" {
  */
 uint64_t coinbarrow_exif(const uint8_t *image, size_t image_len, uint8_t *out, size_t out_len);
 
-/* The number is the upper half of the answer, the length the lower. */
+/*
+ * The same for an image that may be HEIF or JPEG. Where `coinbarrow_is_heif` says yes, the answer is that of `coinbarrow_exif`. Any other image that
+ * starts FF D8 is read as JPEG: 0 and 28 are as above, and the numbers that say why there is no block are
+ *
+ *   1  not found: a marker DA or D9 comes before an Exif segment
+ *   2  image ends too soon: before a marker, or inside a marker, a length or a body
+ *  32  no FF where a marker must be
+ *  33  length under 2
+ *
+ * What is neither gets the answer of `coinbarrow_exif`. So 31, which JPEG's own table has for what doesn't start FF D8, is never given here.
+ */
+uint64_t coinbarrow_photo(const uint8_t *image, size_t image_len, uint8_t *out, size_t out_len);
+
+/* Of either answer: the number is the upper half, the length the lower. */
 static inline unsigned coinbarrow_number(uint64_t answer) {
     return (unsigned)(answer >> 32);
 }

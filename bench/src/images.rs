@@ -10,7 +10,7 @@ const OTHER: usize = 2;
 /// An item of four bytes of offset, which is 1, one byte that it leaves out, and a block of four.
 const ITEM: [u8; 9] = *b"\x00\x00\x00\x01\xaaMM\x00\x2a";
 
-fn two(number: usize) -> [u8; 2] {
+pub(crate) fn two(number: usize) -> [u8; 2] {
     u16::try_from(number).unwrap().to_be_bytes()
 }
 

@@ -24,7 +24,6 @@ fn measure_row(row: Listed, meter: &mut impl Meter) -> Figure {
     Figure { row, text, number }
 }
 
-/// The images are made only now, so that the Rust, which allocates, found the heap as it would have without them.
 pub fn measure(meter: &mut impl Meter) -> Vec<Figure> {
     rows::listing().into_iter().map(|row| measure_row(row, meter)).collect()
 }

@@ -1,4 +1,4 @@
-//! The tables of both sides, and of the listing. bench/run starts it, with one of:
+//! The tables of both sides, of HEIF and of JPEG, and of the listing. bench/run starts it, with one of:
 //!
 //!     time           measures by the clock, and prints the tables
 //!     marks          makes the calls between marks, for bench/count-insns
@@ -8,29 +8,39 @@ mod listing;
 mod meters;
 mod report;
 
-use bench::rows;
-use meters::{Clock, Counted, Marks, BATCHES, CALLS};
+use bench::{jpeg_rows, rows};
+use meters::{Clock, Counted, Marks, Meter, BATCHES, CALLS};
+
+struct Figures {
+    groups: [report::Measured; 2],
+    listing: Vec<listing::Figure>,
+}
+
+/// The images of each part are made when its turn comes, so that the Rust, which allocates, finds the heap as it would without those behind it.
+fn measure(meter: &mut impl Meter) -> Figures {
+    let groups = [rows::groups, jpeg_rows::groups].map(|groups| report::measure(groups(), meter));
+    Figures { groups, listing: listing::measure(meter) }
+}
+
+fn print(figures: &Figures, head: &str, unit: &str) {
+    println!("{head}\n");
+    figures.groups.iter().for_each(|measured| report::print(measured, unit));
+    listing::print(&figures.listing, unit);
+}
 
 fn main() {
     let words: Vec<String> = std::env::args().skip(1).collect();
-    let groups = rows::groups();
-    report::agree(&groups);
     match words.iter().map(String::as_str).collect::<Vec<_>>()[..] {
         ["time"] => {
-            let (pairs, figures) = (report::measure(&groups, &mut Clock), listing::measure(&mut Clock));
-            println!("TIME a call, in nanoseconds (ns): the fastest of {BATCHES} batches, in which the sides take turns.\n");
-            report::print(&groups, &pairs, "ns");
-            listing::print(&figures, "ns");
+            let head = format!("TIME a call, in nanoseconds (ns): the fastest of {BATCHES} batches, in which the sides take turns.");
+            print(&measure(&mut Clock), &head, "ns");
         }
-        ["marks"] => drop((report::measure(&groups, &mut Marks), listing::measure(&mut Marks))),
+        ["marks"] => drop(measure(&mut Marks)),
         ["counted", file] => {
-            let mut counted = Counted::read(file);
-            let (pairs, figures) = (report::measure(&groups, &mut counted), listing::measure(&mut counted));
-            println!(
-                "INSTRUCTIONS that a call executes, the mean of {CALLS} calls, counted by an emulator: exact, but no measure of time.\n"
+            let head = format!(
+                "INSTRUCTIONS that a call executes, the mean of {CALLS} calls, counted by an emulator: exact, but no measure of time."
             );
-            report::print(&groups, &pairs, "instructions");
-            listing::print(&figures, "instructions");
+            print(&measure(&mut Counted::read(file)), &head, "instructions");
         }
         _ => panic!("bench time, bench marks, or bench counted FILE"),
     }

@@ -12,15 +12,10 @@ use crate::meters::{Meter, Pair};
 fn agreed(row: &Row) -> String {
     match row.call {
         Call::Exif => grouped(sides::agreed_block(row.name, &row.image)),
+        Call::Photo => grouped(sides::agreed_photo(row.name, &row.image)),
+        Call::Jpeg => sides::agreed_jpeg(row.name, &row.image).map_or_else(|number| format!("refusal {number}"), grouped),
         Call::Heif => if sides::agreed_heif(row.name, &row.image) { "yes" } else { "no" }.to_string(),
         Call::Empty => "-".to_string(),
-    }
-}
-
-/// Both sides give the same answer on every image; nothing is measured before that.
-pub fn agree(groups: &[Group]) {
-    for row in groups.iter().flat_map(|group| &group.rows) {
-        agreed(row);
     }
 }
 
@@ -33,6 +28,14 @@ fn measure_row(row: &Row, meter: &mut impl Meter) -> Pair {
             || drop(black_box(sides::rust_exif(black_box(image)))),
             || _ = black_box(sides::our_exif(black_box(image), black_box(&mut out))),
         ),
+        Call::Photo => meter.measure(
+            || drop(black_box(sides::rust_photo(black_box(image)))),
+            || _ = black_box(sides::our_photo(black_box(image), black_box(&mut out))),
+        ),
+        Call::Jpeg => meter.measure(
+            || drop(black_box(sides::rust_jpeg(black_box(image)))),
+            || _ = black_box(sides::our_photo(black_box(image), black_box(&mut out))),
+        ),
         Call::Heif => {
             meter.measure(|| _ = black_box(sides::rust_is_heif(black_box(image))), || _ = black_box(sides::our_is_heif(black_box(image))))
         }
@@ -40,9 +43,19 @@ fn measure_row(row: &Row, meter: &mut impl Meter) -> Pair {
     }
 }
 
-/// The figures of each group's rows.
-pub fn measure(groups: &[Group], meter: &mut impl Meter) -> Vec<Vec<Pair>> {
-    groups.iter().map(|group| group.rows.iter().map(|row| measure_row(row, meter)).collect()).collect()
+/// Groups, and the figures of each one's rows.
+pub struct Measured {
+    groups: Vec<Group>,
+    pairs: Vec<Vec<Pair>>,
+}
+
+/// Both sides have to give the same answer on every image; nothing of these groups is measured before that.
+pub fn measure(groups: Vec<Group>, meter: &mut impl Meter) -> Measured {
+    for row in groups.iter().flat_map(|group| &group.rows) {
+        agreed(row);
+    }
+    let pairs = groups.iter().map(|group| group.rows.iter().map(|row| measure_row(row, meter)).collect()).collect();
+    Measured { groups, pairs }
 }
 
 /// One digit after the point of a small figure, none of another.
@@ -79,8 +92,8 @@ fn line(group: &Group, row: &Row, pair: &Pair) -> Vec<String> {
     line
 }
 
-pub fn print(groups: &[Group], pairs: &[Vec<Pair>], unit: &str) {
-    for (group, pairs) in groups.iter().zip(pairs) {
+pub fn print(measured: &Measured, unit: &str) {
+    for (group, pairs) in measured.groups.iter().zip(&measured.pairs) {
         let mut head = ["image", "bytes", "answer"].map(str::to_string).to_vec();
         head.extend([format!("Rust, {unit}"), format!("ours, {unit}"), "ours / Rust".to_string()]);
         if group.growth {

@@ -1,4 +1,4 @@
-//! What is measured: which call, on which image. KB and MB are 1,000 and 1,000,000 bytes.
+//! What is measured: which call, on which image; jpeg_rows.rs has those of `coinbarrow_photo`. KB and MB are 1,000 and 1,000,000 bytes.
 
 use oracle::every;
 
@@ -8,6 +8,9 @@ use crate::images::{self, Phone};
 pub enum Call {
     Exif,
     Heif,
+    /// `coinbarrow_photo` on a HEIF image, and on a JPEG image.
+    Photo,
+    Jpeg,
     Empty,
 }
 
@@ -34,7 +37,7 @@ pub fn groups() -> Vec<Group> {
 }
 
 /// 2,000 bytes stand for what a camera writes.
-const PHONE: Phone = Phone { exif: 2_000, mdat: 3_000_000, mdat_first: true, names: false };
+pub(crate) const PHONE: Phone = Phone { exif: 2_000, mdat: 3_000_000, mdat_first: true, names: false };
 
 /// The longest item; four bytes of offset are before its block.
 const LONGEST: usize = 65_535;
@@ -104,7 +107,7 @@ const ITEMS: [usize; 3] = [655, 6_553, 65_530];
 const EXTENTS: [usize; 3] = [100, 1_000, 10_000];
 const MDATS: [usize; 4] = [3_000, 30_000, 300_000, 3_000_000];
 
-fn grown(name: &'static str, call: Call, sizes: &[usize], image: impl Fn(usize) -> Vec<u8>) -> Vec<Row> {
+pub(crate) fn grown(name: &'static str, call: Call, sizes: &[usize], image: impl Fn(usize) -> Vec<u8>) -> Vec<Row> {
     sizes.iter().map(|&size| Row { name, call, image: image(size) }).collect()
 }
 

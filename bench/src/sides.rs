@@ -4,8 +4,11 @@ use std::hint::black_box;
 
 use oracle::Error;
 
+use crate::plain;
+
 extern "C" {
     fn coinbarrow_exif(image: *const u8, image_len: usize, out: *mut u8, out_len: usize) -> u64;
+    fn coinbarrow_photo(image: *const u8, image_len: usize, out: *mut u8, out_len: usize) -> u64;
     fn coinbarrow_is_heif(bytes: *const u8, len: usize) -> bool;
     fn coinbarrow_list(image: *const u8, image_len: usize, out: *mut u8, out_len: usize) -> usize;
 }
@@ -29,11 +32,29 @@ pub fn rust_is_heif(image: &[u8]) -> bool {
     oracle::is_heif(image)
 }
 
-/// Document 01's number times 2^32, plus the length.
+/// Extraction for HEIF that is first asked for, as `coinbarrow_photo` does it.
+#[inline(never)]
+pub fn rust_photo(image: &[u8]) -> Option<Result<Vec<u8>, Error>> {
+    oracle::is_heif(image).then(|| oracle::get_exif_attr(image))
+}
+
+/// JPEG alone: it is not asked whether the image is HEIF.
+#[inline(never)]
+pub fn rust_jpeg(image: &[u8]) -> Result<Vec<u8>, u8> {
+    plain::jpeg_exif(image)
+}
+
+/// The number times 2^32, plus the length.
 #[inline(always)]
 pub fn our_exif(image: &[u8], out: &mut [u8]) -> u64 {
     // SAFETY: both are slices, and ours keeps neither.
     unsafe { coinbarrow_exif(image.as_ptr(), image.len(), out.as_mut_ptr(), out.len()) }
+}
+
+#[inline(always)]
+pub fn our_photo(image: &[u8], out: &mut [u8]) -> u64 {
+    // SAFETY: both are slices, and ours keeps neither.
+    unsafe { coinbarrow_photo(image.as_ptr(), image.len(), out.as_mut_ptr(), out.len()) }
 }
 
 #[inline(always)]
@@ -55,14 +76,37 @@ pub fn empty(_image: &[u8], _out: &mut [u8]) {
     black_box(());
 }
 
+/// Stops where ours has not given this number and this block, or has written anything else.
+fn agree(name: &str, number: u8, block: &[u8], ours: impl FnOnce(&mut [u8]) -> u64) {
+    let mut out = vec![BEFORE; ROOM];
+    assert_eq!(ours(&mut out), u64::from(number) << 32 | block.len() as u64, "{name}: ours has another answer");
+    assert!(out[..block.len()] == *block, "{name}: ours has another block");
+    assert!(out[block.len()..].iter().all(|&byte| byte == BEFORE), "{name}: ours wrote behind the block");
+}
+
 /// The length of the block, once both sides have given the same one and ours has written nothing else. Stops where they differ.
 pub fn agreed_block(name: &str, image: &[u8]) -> usize {
     let block = rust_exif(image).unwrap_or_else(|error| panic!("{name}: the Rust gives no block: {error}"));
-    let mut out = vec![BEFORE; ROOM];
-    assert_eq!(our_exif(image, &mut out), block.len() as u64, "{name}: ours has another answer");
-    assert!(out[..block.len()] == block, "{name}: ours has another block");
-    assert!(out[block.len()..].iter().all(|&byte| byte == BEFORE), "{name}: ours wrote behind the block");
+    agree(name, 0, &block, |out| our_exif(image, out));
     block.len()
+}
+
+/// The same by `coinbarrow_photo`, of a HEIF image.
+pub fn agreed_photo(name: &str, image: &[u8]) -> usize {
+    let block = rust_photo(image).unwrap_or_else(|| panic!("{name}: the Rust says it is no HEIF"));
+    let block = block.unwrap_or_else(|error| panic!("{name}: the Rust gives no block: {error}"));
+    agree(name, 0, &block, |out| our_photo(image, out));
+    block.len()
+}
+
+/// The length of the block of a JPEG image, or the number of its refusal, once both sides say the same. Stops where they differ.
+pub fn agreed_jpeg(name: &str, image: &[u8]) -> Result<usize, u8> {
+    let answer = rust_jpeg(image);
+    match &answer {
+        Ok(block) => agree(name, 0, block, |out| our_photo(image, out)),
+        Err(number) => agree(name, *number, &[], |out| our_photo(image, out)),
+    }
+    answer.map(|block| block.len())
 }
 
 /// Whether it is a HEIF image, once both sides say so. Stops where they differ.

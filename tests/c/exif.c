@@ -1,5 +1,5 @@
-/* Calls Coinbarrow on document 01's file H and on images near it: a line a call, and the listings. What it must print is in the file `stdout` beside
- * it. */
+/* Calls Coinbarrow on document 01's file H, on a small JPEG file J and on images near them: a line a call, and the listings. What it must print is in
+ * the file `stdout` beside it. */
 #include <stdio.h>
 
 #include "coinbarrow.h"
@@ -13,6 +13,12 @@ static const uint8_t h[] =
     "\0\0\0\x20" "iloc" "\1\0\0\0" "\x44\0" "\0\1" "\0\1" "\0\1" "\0\0" "\0\1" "\0\0\0\0" "\0\0\0\0"
     "\0\0\0\x11" "idat" "\0\0\0\1" "\xaa" "\x4d\x4d\0\x2a";
 
+/* One marker a line, and the length and the body behind it. */
+static const uint8_t j[] =
+    "\xff\xd8"
+    "\xff\xe1" "\0\x0c" "Exif\0\0" "\x4d\x4d\0\x2a"
+    "\xff\xd9";
+
 enum {
     H_LEN = sizeof h - 1, /* without the zero that ends a C string */
     META = 20,            /* where boxes of H begin */
@@ -20,23 +26,38 @@ enum {
     IDAT_BODY = 107,
     EXTENT_LENGTH = 98,   /* where the last byte of a field is */
     BLOCK_OFFSET = 110,
+    J_LEN = sizeof j - 1,
+    SEGMENT = 2,          /* where parts of J begin */
+    SEGMENT_LENGTH = 4,
+    BLOCK = 12,
     SHOWN = 8
 };
 
+typedef uint64_t function(const uint8_t *, size_t, uint8_t *, size_t);
+
 /* The output is the first `room` bytes of a buffer that holds a5 before the call. How many of all its bytes changed shows whether anything was
  * written behind the block. */
-static void call(const char *name, const uint8_t *image, size_t image_len, size_t room) {
+static void show(function *asked, const char *name, const uint8_t *image, size_t image_len, size_t room) {
     static uint8_t buffer[COINBARROW_LONGEST + SHOWN];
     size_t i, changed = 0;
     uint64_t answer;
     for (i = 0; i < sizeof buffer; i++) buffer[i] = 0xa5;
-    answer = coinbarrow_exif(image, image_len, room == 0 ? NULL : buffer, room);
+    answer = asked(image, image_len, room == 0 ? NULL : buffer, room);
     for (i = 0; i < sizeof buffer; i++) changed += buffer[i] != 0xa5;
     printf("%s, output of %zu: ", name, room);
     printf("number=%u length=%zu heif=%d", coinbarrow_number(answer), coinbarrow_length(answer), coinbarrow_is_heif(image, image_len));
     printf(" changed=%zu buffer=", changed);
     for (i = 0; i < SHOWN; i++) printf("%02x", buffer[i]);
     printf("\n");
+}
+
+static void call(const char *name, const uint8_t *image, size_t image_len, size_t room) {
+    show(coinbarrow_exif, name, image, image_len, room);
+}
+
+static void photo(const char *name, const uint8_t *image, size_t image_len, size_t room) {
+    printf("photo: ");
+    show(coinbarrow_photo, name, image, image_len, room);
 }
 
 /* H with one byte changed. */
@@ -63,6 +84,25 @@ static void call_longer(const char *name, size_t body, size_t room) {
     put_size(image + META, IDAT_BODY + body - META);
     put_size(image + IDAT, IDAT_BODY + body - IDAT);
     call(name, image, IDAT_BODY + body, room);
+}
+
+/* J with some bytes before its segment. */
+static void photo_with(const char *name, const char *bytes, size_t length) {
+    uint8_t image[J_LEN + 4];
+    size_t i;
+    for (i = 0; i < SEGMENT; i++) image[i] = j[i];
+    for (i = 0; i < length; i++) image[SEGMENT + i] = (uint8_t)bytes[i];
+    for (i = SEGMENT; i < J_LEN; i++) image[length + i] = j[i];
+    photo(name, image, J_LEN + length, SHOWN);
+}
+
+/* J with the longest segment: a block of 65527 zeros. */
+static void photo_longest(size_t room) {
+    static uint8_t image[BLOCK + 65527];
+    size_t i;
+    for (i = 0; i < BLOCK; i++) image[i] = j[i];
+    image[SEGMENT_LENGTH] = image[SEGMENT_LENGTH + 1] = 0xff;
+    photo("J with a block of 65527 bytes", image, sizeof image, room);
 }
 
 /* The listing, in the first `room` bytes of a buffer that holds a5 before the call, which no text has. As above, all its bytes are looked at. */
@@ -98,6 +138,23 @@ int main(void) {
     call_longer("H with 65535 bytes in idat", 65535, COINBARROW_LONGEST);
     call_longer("H with 65535 bytes in idat", 65535, COINBARROW_LONGEST - 1);
     call_longer("H with 65536 bytes in idat", 65536, COINBARROW_LONGEST);
+    call("J", j, J_LEN, 8);
+    photo("H", h, H_LEN, 8);
+    photo("J", j, J_LEN, 8);
+    photo("J", j, J_LEN, 4);
+    photo("J", j, J_LEN, 3);
+    photo("J", j, J_LEN, 0);
+    photo("J cut to 16 bytes", j, 16, 8);
+    photo("J cut to 15 bytes", j, 15, 8);
+    photo("J cut to 2 bytes", j, 2, 8);
+    photo_with("J with two FF before its segment", "\xff\xff", 2);
+    photo_with("J with 00 before it", "\0", 1);
+    photo_with("J with FF E0 00 01 before it", "\xff\xe0\0\1", 4);
+    photo_with("J with FF DA before it", "\xff\xda", 2);
+    photo_longest(65527);
+    photo_longest(65526);
+    photo("a box of size 7, so neither", (const uint8_t *)"\0\0\0\x07" "free", 8, 8);
+    photo("no image", NULL, 0, 8);
     list("H", h, H_LEN, COINBARROW_LONGEST_TEXT);
     list("H", h, H_LEN, 285);
     list("H", h, H_LEN, 284);

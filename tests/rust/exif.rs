@@ -1,7 +1,8 @@
-//! Coinbarrow from Rust: a safe function for each of the three that include/coinbarrow.h declares, tried on document 01's file H.
+//! Coinbarrow from Rust: a safe function for each of the four that include/coinbarrow.h declares, tried on document 01's file H and a small JPEG file J.
 
 extern "C" {
     fn coinbarrow_exif(image: *const u8, image_len: usize, out: *mut u8, out_len: usize) -> u64;
+    fn coinbarrow_photo(image: *const u8, image_len: usize, out: *mut u8, out_len: usize) -> u64;
     fn coinbarrow_is_heif(bytes: *const u8, bytes_len: usize) -> bool;
     fn coinbarrow_list(image: *const u8, image_len: usize, out: *mut u8, out_len: usize) -> usize;
 }
@@ -14,16 +15,28 @@ enum Refused {
     By(u32),
 }
 
-/// The Exif block of an image, at the front of `out`.
-fn exif<'a>(image: &[u8], out: &'a mut [u8]) -> Result<&'a [u8], Refused> {
-    // SAFETY: both are slices, and `out` is borrowed mutably, so it overlaps nothing.
-    let answer = unsafe { coinbarrow_exif(image.as_ptr(), image.len(), out.as_mut_ptr(), out.len()) };
+/// The two halves of an answer.
+fn unpacked(answer: u64, out: &[u8]) -> Result<&[u8], Refused> {
     let (number, length) = ((answer >> 32) as u32, answer as u32 as usize);
     match number {
         0 => Ok(&out[..length]),
         28 => Err(Refused::NoRoom(length)),
         _ => Err(Refused::By(number)),
     }
+}
+
+/// The Exif block of a HEIF image, at the front of `out`.
+fn exif<'a>(image: &[u8], out: &'a mut [u8]) -> Result<&'a [u8], Refused> {
+    // SAFETY: both are slices, and `out` is borrowed mutably, so it overlaps nothing.
+    let answer = unsafe { coinbarrow_exif(image.as_ptr(), image.len(), out.as_mut_ptr(), out.len()) };
+    unpacked(answer, out)
+}
+
+/// The same of an image that may be HEIF or JPEG.
+fn photo<'a>(image: &[u8], out: &'a mut [u8]) -> Result<&'a [u8], Refused> {
+    // SAFETY: as in `exif`.
+    let answer = unsafe { coinbarrow_photo(image.as_ptr(), image.len(), out.as_mut_ptr(), out.len()) };
+    unpacked(answer, out)
 }
 
 fn is_heif(bytes: &[u8]) -> bool {
@@ -52,6 +65,14 @@ const H: &[u8] = b"\
     \0\0\0\x20iloc\x01\0\0\0\x44\0\0\x01\0\x01\0\x01\0\0\0\x01\0\0\0\0\0\0\0\0\
     \0\0\0\x11idat\0\0\0\x01\xaa\x4d\x4d\0\x2a";
 
+/// FF D8, an Exif segment, FF D9.
+const J: &[u8] = b"\xff\xd8\xff\xe1\0\x0cExif\0\0\x4d\x4d\0\x2a\xff\xd9";
+
+/// J with some bytes before its segment.
+fn with(bytes: &[u8]) -> Vec<u8> {
+    [&J[..2], bytes, &J[2..]].concat()
+}
+
 const LISTED: &str = "\
 depth=0 at=0 type=66747970 header=8 body=12
 depth=0 at=20 type=6d657461 header=8 body=88
@@ -62,16 +83,48 @@ depth=1 at=99 type=69646174 header=8 body=9
 end=116 answer=0
 ";
 
-fn main() {
+/// The block of H and of J.
+const BLOCK: &[u8] = b"\x4d\x4d\0\x2a";
+
+fn heif_calls() {
     let mut out = [0xa5; 8];
-    assert_eq!(exif(H, &mut out), Ok(&b"\x4d\x4d\0\x2a"[..]));
+    assert_eq!(exif(H, &mut out), Ok(BLOCK));
     assert_eq!(out[4..], [0xa5; 4]);
     assert_eq!(exif(H, &mut out[..3]), Err(Refused::NoRoom(4)));
     assert_eq!(exif(&H[..115], &mut out), Err(Refused::By(2)));
     assert_eq!(exif(&[], &mut []), Err(Refused::By(1)));
     assert!(is_heif(H));
     assert!(!is_heif(&H[..19]));
+}
+
+fn photo_calls() {
+    let mut out = [0xa5; 8];
+    assert_eq!(photo(H, &mut out), Ok(BLOCK));
+    assert_eq!(photo(J, &mut out), Ok(BLOCK));
+    assert_eq!(out[4..], [0xa5; 4]);
+    assert_eq!(photo(J, &mut out[..4]), Ok(BLOCK));
+    assert_eq!(photo(J, &mut out[..3]), Err(Refused::NoRoom(4)));
+    assert_eq!(photo(J, &mut []), Err(Refused::NoRoom(4)));
+    assert_eq!(photo(&J[..15], &mut out), Err(Refused::By(2)));
+    assert_eq!(photo(&with(b"\xff\xff"), &mut out), Ok(BLOCK));
+    assert_eq!(photo(&with(b"\0"), &mut out), Err(Refused::By(32)));
+    assert_eq!(photo(&with(b"\xff\xe0\0\x01"), &mut out), Err(Refused::By(33)));
+    assert_eq!(photo(&with(b"\xff\xda"), &mut out), Err(Refused::By(1)));
+    assert_eq!(photo(b"\0\0\0\x07free", &mut out), Err(Refused::By(4)));
+    assert_eq!(photo(&[], &mut []), Err(Refused::By(1)));
+    let longest = [&J[..4], b"\xff\xffExif\0\0", &[7; 65_527]].concat();
+    assert_eq!(photo(&longest, &mut [0; 65_527]), Ok(&[7; 65_527][..]));
+    assert_eq!(photo(&longest, &mut [0; 65_526]), Err(Refused::NoRoom(65_527)));
+}
+
+fn listings() {
     assert_eq!(list(H), LISTED);
     assert_eq!(list(&[]), "end=0 answer=0\n");
     assert_eq!(list(&[0; 65_537]), "end=65536 answer=29\n");
+}
+
+fn main() {
+    heif_calls();
+    photo_calls();
+    listings();
 }
