@@ -15,12 +15,12 @@ use Rattle.output.specs.Told.{told}
 use Rattle.output.specs.declared.Extracted.{Extracted}
 use Rattle.output.specs.declared.Extracted.the-variants.{Done, NoRoom, Refused}
 use Rattle.rules.specs.Demands.One.{length-said}
-use Rattle.jpeg_rules.specs.Doc.Photo.{photoAnswer}
+use Rattle.jpeg_rules.specs.Doc.Either.{eitherAnswer}
 use Rattle.reader.specs.Demands.{output-is, success-only-block}
 use Rattle.capture_rules.specs.Doc.Capture.{Capture, capture, ofAnswer, photo}
 
-module _ (img out after : List ℕ) (r : Extracted) (meets : told r after ≡ photoAnswer img out) where
-  pub output-kept : after ≡ photoAnswer img out .output
+module _ (img out after : List ℕ) (r : Extracted) (meets : told r after ≡ eitherAnswer img out) where
+  pub output-kept : after ≡ eitherAnswer img out .output
   output-kept = output-is img out r after meets
 
   pub photo-refused : {e : Refusal} → r ≡ Refused e → refused (number e) ≡ photo img out
@@ -36,7 +36,7 @@ module _ (img out after : List ℕ) (r : Extracted) (meets : told r after ≡ ph
     pub block-inside : n ≤ length after
     unfolding bytesAt
     block-inside =
-        let done : told (Done n) after ≡ photoAnswer img out = rw f at meets in
+        let done : told (Done n) after ≡ eitherAnswer img out = rw f at meets in
         let w = success-only-block img out (Done n) after done refl in
         let size : n ≡ length (w .positions) = ap (λ (a : Answer). a .length) done ∙ length-said img out (w .is-block) in
         rw (w .front) (simp (length-append, length-map) (omega (arith, size)))

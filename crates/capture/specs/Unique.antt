@@ -7,7 +7,7 @@ use native.Mathlib.Omega.{arith}
 use lib.Dec.{ltb}
 use borrow.Author.Tests.{lt-ltb}
 use Rattle.rules.specs.Doc.Outcomes.{if_then_else_, Outcome, fine, refused}
-use Rattle.jpeg_rules.specs.Doc.Photo.{photoAnswer}
+use Rattle.jpeg_rules.specs.Doc.Either.{eitherAnswer}
 use Rattle.rules.specs.Laws.Back.{one}
 use Rattle.boxes.specs.Told.{number}
 use Rattle.boxes.specs.Unique.{asRefusal, refusal-back, number-limit}
@@ -84,6 +84,6 @@ photo-back (f.Unread e) = unread-back e
 
 -- of `from_image`
 pub image-one : (img out : List ℕ) {p q : Photo} {after after′ : List ℕ}
-    → photoOf p ≡ doc.photo img out → after ≡ photoAnswer img out .output → photoOf q ≡ doc.photo img out → after′ ≡ photoAnswer img out .output
+    → photoOf p ≡ doc.photo img out → after ≡ eitherAnswer img out .output → photoOf q ≡ doc.photo img out → after′ ≡ eitherAnswer img out .output
     → (p ≡ q) × (after ≡ after′)
 image-one img out e g h k = (one photoOf asPhoto photo-back e h, g ∙ sym k)

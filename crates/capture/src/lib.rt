@@ -8,7 +8,7 @@ mod pointer;
 ghost use mathlib.Core.Path.{_≡_};
 ghost use Prim.Native.Nat.{_+_, _*_, _≤_};
 ghost use lib.ListN.{length};
-ghost use Rattle.jpeg_rules.specs.Doc.Photo.{photoAnswer};
+ghost use Rattle.jpeg_rules.specs.Doc.Either.{eitherAnswer};
 ghost use Rattle.capture_rules.specs.Doc.Capture.{inOrder, captureIn, captureFrom, capture as Capture·capture, photo};
 ghost use Rattle.endian.specs.Told.{endianOf};
 ghost use Rattle.capture.specs.Told.{datedOf, biasedOf, capturedOf, photoOf};
@@ -100,7 +100,7 @@ pub fn from_block(block: &[u8]) -> Captured
 // Extracts the block into `out` first, and then reads it there. After any answer `out` is what extraction left.
 pub fn from_image(image: &[u8], out: &mut [u8]) -> Photo
     ensures { λ r. ⌜ photoOf r ≡ photo (now (image .entry)) (now (out .entry)) ⌝ }
-    ensures { λ r. ⌜ now (out .exit) ≡ photoAnswer (now (image .entry)) (now (out .entry)) .output ⌝ }
+    ensures { λ r. ⌜ now (out .exit) ≡ eitherAnswer (now (image .entry)) (now (out .entry)) .output ⌝ }
 {
     match reader::get_exif_attr(image, out) {
         Extracted::Refused(e) => Photo::NoBlock(e),

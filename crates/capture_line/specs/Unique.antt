@@ -4,7 +4,7 @@ use mathlib.Core.Path.{_≡_, sym, _∙_}
 use Prim.Native.Nat.{ℕ, _≤_}
 use mathlib.Core.List.{List, _++_}
 use lib.ListN.{length, drop}
-use Rattle.jpeg_rules.specs.Doc.Photo.{photoAnswer}
+use Rattle.jpeg_rules.specs.Doc.Either.{eitherAnswer}
 use Rattle.rules.specs.Doc.Listing.{printed}
 use Rattle.capture_rules.specs.Doc.Capture.{photo}
 use Rattle.capture_rules.specs.Doc.Line.{lineText}
@@ -12,11 +12,11 @@ use Rattle.capture_rules.specs.Doc.Line.{lineText}
 module _ (image block out : List ℕ) where
   -- the contract of `photo_line`, and that of `photo_line_whole`
   abbrev pub Line : ℕ → List ℕ → List ℕ → Type 0
-  Line r after read = (r ≡ length (lineText (photo image block))) × (after ≡ printed (lineText (photo image block)) out) × (read ≡ photoAnswer image block .output)
+  Line r after read = (r ≡ length (lineText (photo image block))) × (after ≡ printed (lineText (photo image block)) out) × (read ≡ eitherAnswer image block .output)
 
   abbrev pub Whole : ℕ → List ℕ → List ℕ → Type 0
   Whole r after read =
-      ((r ≡ length (lineText (photo image block))) × (r ≤ 62)) × (after ≡ lineText (photo image block) ++ drop r out) × (read ≡ photoAnswer image block .output)
+      ((r ≡ length (lineText (photo image block))) × (r ≤ 62)) × (after ≡ lineText (photo image block) ++ drop r out) × (read ≡ eitherAnswer image block .output)
 
   module _ {r r′ : ℕ} {after after′ read read′ : List ℕ} where
     pub line-one : Line r after read → Line r′ after′ read′ → (r ≡ r′) × (after ≡ after′) × (read ≡ read′)

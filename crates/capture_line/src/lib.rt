@@ -7,7 +7,7 @@ ghost use mathlib.Core.List.{_++_};
 ghost use Prim.Native.Nat.{_≤_};
 ghost use lib.ListN.{length, drop};
 ghost use Rattle.rules.specs.Doc.Outcomes.{fine, refused};
-ghost use Rattle.jpeg_rules.specs.Doc.Photo.{photoAnswer};
+ghost use Rattle.jpeg_rules.specs.Doc.Either.{eitherAnswer};
 ghost use Rattle.rules.specs.Doc.Listing.{printed};
 ghost use Rattle.capture_rules.specs.Doc.Capture.{photo as Capture·photo};
 ghost use Rattle.capture_rules.specs.Doc.Line.{lineText};
@@ -60,7 +60,7 @@ fn put_photo(photo: Photo, out: &mut [u8]) -> usize
 pub fn photo_line(image: &[u8], block: &mut [u8], out: &mut [u8]) -> usize
     ensures { λ r. ⌜ r ≡ length (lineText (Capture·photo (now (image .entry)) (now (block .entry)))) ⌝ }
     ensures { λ r. ⌜ now (out .exit) ≡ printed (lineText (Capture·photo (now (image .entry)) (now (block .entry)))) (now (out .entry)) ⌝ }
-    ensures { λ r. ⌜ now (block .exit) ≡ photoAnswer (now (image .entry)) (now (block .entry)) .output ⌝ }
+    ensures { λ r. ⌜ now (block .exit) ≡ eitherAnswer (now (image .entry)) (now (block .entry)) .output ⌝ }
 {
     let photo = capture::from_image(image, block);
     put_photo(photo, out)
@@ -70,14 +70,14 @@ pub fn photo_line(image: &[u8], block: &mut [u8], out: &mut [u8]) -> usize
 pub fn photo_line_whole(image: &[u8], block: &mut [u8], out: &mut [u8; LONGEST_LINE]) -> usize
     ensures { λ r. ⌜ (r ≡ length (lineText (Capture·photo (now (image .entry)) (now (block .entry))))) × (r ≤ 62) ⌝ }
     ensures { λ r. ⌜ now (out .exit) ≡ lineText (Capture·photo (now (image .entry)) (now (block .entry))) ++ drop r (now (out .entry)) ⌝ }
-    ensures { λ r. ⌜ now (block .exit) ≡ photoAnswer (now (image .entry)) (now (block .entry)) .output ⌝ }
+    ensures { λ r. ⌜ now (block .exit) ≡ eitherAnswer (now (image .entry)) (now (block .entry)) .output ⌝ }
 {
     photo_line(image, block, out)
 }
 
 // The line on standard output; the answer is whether all of it was written.
 pub fn print_line(image: &[u8], block: &mut [u8]) -> bool
-    ensures { λ _. ⌜ now (block .exit) ≡ photoAnswer (now (image .entry)) (now (block .entry)) .output ⌝ }
+    ensures { λ _. ⌜ now (block .exit) ≡ eitherAnswer (now (image .entry)) (now (block .entry)) .output ⌝ }
 {
     let mut line = [0u8; LONGEST_LINE];
     let n = photo_line_whole(image, block, &mut line);

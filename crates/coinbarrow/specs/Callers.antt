@@ -13,8 +13,8 @@ use Rattle.rules.specs.Unfold.{document}
 use Rattle.rules.specs.Demands.One.{length-limit, number-limit, always-room}
 use Rattle.rules.specs.Laws.Endian.{Bytes}
 use Rattle.rules.specs.Laws.ListingLength.{listing-length}
-use Rattle.jpeg_rules.specs.Doc.Photo.{photoAnswer}
-use Rattle.jpeg_rules.specs.Demands.One.{photo-length, photo-number, photo-never-31, photo-room}
+use Rattle.jpeg_rules.specs.Doc.Either.{eitherAnswer}
+use Rattle.jpeg_rules.specs.Demands.One.{either-length, either-number, either-never-31, either-room}
 use Rattle.listing.specs.Whole.{too-long}
 use Rattle.coinbarrow.specs.Halves.{unpacked}
 
@@ -43,18 +43,18 @@ module _ (img out : List ℕ) (r : ℕ) (after : List ℕ) (meets : unpacked r a
   enough-room h e = always-room img out h (omega (arith, upper (answer img out) r after meets))
 
 -- Of HEIF or JPEG: the upper half is at most 33, and never 31; the rest is the same, of an image that is made of bytes.
-module _ (img out : List ℕ) (r : ℕ) (after : List ℕ) (meets : unpacked r after ≡ photoAnswer img out) where
+module _ (img out : List ℕ) (r : ℕ) (after : List ℕ) (meets : unpacked r after ≡ eitherAnswer img out) where
   pub photo-upper-limit : r / 2 ^ 32 ≤ 33
-  photo-upper-limit = omega (arith, upper (photoAnswer img out) r after meets, photo-number img out)
+  photo-upper-limit = omega (arith, upper (eitherAnswer img out) r after meets, either-number img out)
 
   pub photo-upper-never-31 : r / 2 ^ 32 ≡ 31 → ⊥
-  photo-upper-never-31 e = photo-never-31 img out (sym (upper (photoAnswer img out) r after meets) ∙ e)
+  photo-upper-never-31 e = either-never-31 img out (sym (upper (eitherAnswer img out) r after meets) ∙ e)
 
   pub photo-lower-limit : Bytes img → r % 2 ^ 32 ≤ 65531
-  photo-lower-limit b = omega (arith, lower (photoAnswer img out) r after meets, photo-length img out b)
+  photo-lower-limit b = omega (arith, lower (eitherAnswer img out) r after meets, either-length img out b)
 
   pub photo-enough-room : Bytes img → 65531 ≤ length out → r / 2 ^ 32 ≡ 28 → ⊥
-  photo-enough-room b h e = photo-room img out b h (omega (arith, upper (photoAnswer img out) r after meets))
+  photo-enough-room b h e = either-room img out b h (omega (arith, upper (eitherAnswer img out) r after meets))
 
 -- ---- The text that `coinbarrow_list` writes
 

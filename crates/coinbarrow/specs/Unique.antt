@@ -7,7 +7,7 @@ use lib.ListN.{length}
 use Rattle.rules.specs.Doc.Answers.{Answer, answer}
 use Rattle.rules.specs.Doc.Heif.{isHeif}
 use Rattle.rules.specs.Doc.Listing.{listing, printed}
-use Rattle.jpeg_rules.specs.Doc.Photo.{photoAnswer}
+use Rattle.jpeg_rules.specs.Doc.Either.{eitherAnswer}
 use Rattle.listing.specs.Unique.{list-one as boxes-one}
 use Rattle.coinbarrow.specs.Halves.{unpacked}
 use Rattle.coinbarrow.specs.Callers.{is-sum}
@@ -22,9 +22,9 @@ pub exif-one : (img out : List ℕ) (r s : ℕ) (after after′ : List ℕ) → 
 exif-one img out = packed-one (answer img out)
 
 -- of `coinbarrow_photo`
-pub photo-one : (img out : List ℕ) (r s : ℕ) (after after′ : List ℕ) → unpacked r after ≡ photoAnswer img out → unpacked s after′ ≡ photoAnswer img out
+pub photo-one : (img out : List ℕ) (r s : ℕ) (after after′ : List ℕ) → unpacked r after ≡ eitherAnswer img out → unpacked s after′ ≡ eitherAnswer img out
     → (r ≡ s) × (after ≡ after′)
-photo-one img out = packed-one (photoAnswer img out)
+photo-one img out = packed-one (eitherAnswer img out)
 
 -- of `coinbarrow_is_heif`
 pub heif-one : (bytes : List ℕ) {x y : Bool} → x ≡ isHeif bytes → y ≡ isHeif bytes → x ≡ y

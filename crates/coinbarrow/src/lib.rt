@@ -6,7 +6,7 @@ ghost use lib.ListN.{length};
 ghost use Rattle.rules.specs.Doc.Answers.{answer};
 ghost use Rattle.rules.specs.Doc.Heif.{isHeif};
 ghost use Rattle.rules.specs.Doc.Listing.{listing, printed};
-ghost use Rattle.jpeg_rules.specs.Doc.Photo.{photoAnswer};
+ghost use Rattle.jpeg_rules.specs.Doc.Either.{eitherAnswer};
 ghost use Rattle.output.specs.Told.{told};
 ghost use Rattle.coinbarrow.specs.Halves.{unpacked};
 use boxes::Refusal;
@@ -45,7 +45,7 @@ pub extern "C" fn coinbarrow_exif(image: &[u8], out: &mut [u8]) -> u64
 // The same of a photograph that may be HEIF or JPEG. The numbers of JPEG are request three's.
 #[no_mangle]
 pub extern "C" fn coinbarrow_photo(image: &[u8], out: &mut [u8]) -> u64
-    ensures { λ r. ⌜ unpacked r (now (out .exit)) ≡ photoAnswer (now (image .entry)) (now (out .entry)) ⌝ }
+    ensures { λ r. ⌜ unpacked r (now (out .exit)) ≡ eitherAnswer (now (image .entry)) (now (out .entry)) ⌝ }
 {
     let answer = reader::get_exif_attr(image, out);
     packed_answer(answer)

@@ -11,26 +11,26 @@ use Rattle.rules.specs.Doc.Outcomes.{Outcome, fine, refused, _>>=_, require}
 use Rattle.rules.specs.Doc.Bytes.{numberAt}
 use Rattle.rules.specs.Laws.Rows.{bind-fine, required}
 use Rattle.rules.specs.Laws.Lies.{Lies}
-use Rattle.jpeg_rules.specs.Doc.Segments.{sizeAt, sizeTest}
+use Rattle.jpeg_rules.specs.Doc.Segments.{lengthAt, lengthTest}
 
 -- of a segment whose marker byte stands at a position, with that length; and with the length that stands behind the marker byte
 unfoldable pub sizedEnd : List ℕ → ℕ → ℕ → Outcome ℕ
 sizedEnd s at size = do
-  _ ← sizeTest (some size)
+  _ ← lengthTest (some size)
   _ ← require (leb (at + 1 + size) (length s)) 2
   fine (at + 1 + size)
 
 unfoldable pub bodyEnd : List ℕ → ℕ → Outcome ℕ
-bodyEnd s at = sizeAt s at >>= sizedEnd s at
+bodyEnd s at = lengthAt s at >>= sizedEnd s at
 
 module _ (s : List ℕ) (at : ℕ) where
   pub end-unread : length s - at < 3 → refused 2 ≡ bodyEnd s at
-  unfolding bodyEnd sizeAt
+  unfolding bodyEnd lengthAt
   end-unread h = rw (lt-leb (at + 3) (length s) (omega arith))
 
   module _ (h : 3 ≤ length s - at) {size : ℕ} (e : size ≡ numberAt s (at + 1) 2) where
     end-read : bodyEnd s at ≡ (require (leb 2 size) 33 >>= λ u. require (leb (at + 1 + size) (length s)) 2 >>= λ v. fine (at + 1 + size))
-    unfolding bodyEnd sizedEnd sizeAt sizeTest
+    unfolding bodyEnd sizedEnd lengthAt lengthTest
     end-read = rw (le-leb (at + 3) (length s) (omega arith), ← e)
 
     pub end-small : size < 2 → refused 33 ≡ bodyEnd s at
@@ -44,9 +44,9 @@ module _ (s : List ℕ) (at : ℕ) where
 
 -- an end that was given lies in the image, behind the length
 pub end-lies : (s : List ℕ) (at : ℕ) {to : ℕ} → fine to ≡ bodyEnd s at → Lies (length s) (record { from = at + 3; to = to })
-unfolding bodyEnd sizedEnd sizeTest
+unfolding bodyEnd sizedEnd lengthTest
 end-lies s at {to} e =
-    let (size, f, e₁) = bind-fine (sizeAt s at) _ e in
+    let (size, f, e₁) = bind-fine (lengthAt s at) _ e in
     let (u, g, e₂) = bind-fine (require (leb 2 size) 33) _ e₁ in
     let (v, h, e₃) = bind-fine (require (leb (at + 1 + size) (length s)) 2) _ e₂ in
     let z : to ≡ at + 1 + size = cc in

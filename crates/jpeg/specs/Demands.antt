@@ -8,7 +8,7 @@ use Rattle.rules.specs.Doc.Consulted.{Agree}
 use Rattle.rules.specs.Demands.One.{Longer, Written}
 use Rattle.jpeg_rules.specs.Doc.Block.{jpegBlock, jpegAnswer}
 use Rattle.jpeg_rules.specs.Doc.Consulted.{jpegConsulted}
-use Rattle.jpeg_rules.specs.Laws.Numbers.{jpeg-early}
+use Rattle.jpeg_rules.specs.Laws.Refusals.{jpeg-early}
 use Rattle.jpeg_rules.specs.Demands.Three.{jpeg-quiet}
 use Rattle.output.specs.Told.{told}
 use Rattle.output.specs.Demands as every

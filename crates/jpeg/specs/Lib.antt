@@ -4,7 +4,7 @@ pub mod Told
 pub mod Markers
 pub mod Exif
 pub mod Bodies
-pub mod Segments
+pub mod Leads
 pub mod Search
 pub mod Whole
 pub mod Unique

@@ -9,7 +9,7 @@ use lib.ListN.{length}
 use lib.Dec.{eqb}
 use borrow.Author.Tests.{le-leb, lt-leb, eq-eqb, ne-eqb, eqb-false}
 use Rattle.rules.specs.Doc.Bytes.{byteAt}
-use Rattle.jpeg_rules.specs.Doc.Segments.{fill, endsSearch, lacksLength, pastFill, markerAt}
+use Rattle.jpeg_rules.specs.Doc.Segments.{prefix, endsSearch, lacksLength, pastFill, markerAt}
 
 -- ---- Kinds of markers
 
@@ -58,10 +58,10 @@ module _ (s : List ℕ) (at : ℕ) {marker : ℕ} (inv : markerAt s at ≡ marke
     left-more : length s - at ≡ suc (length s - (at + 1))
     left-more = omega arith
 
-    pub marker-here : (byteAt s at ≡ fill → ⊥) → at ≡ marker
+    pub marker-here : (byteAt s at ≡ prefix → ⊥) → at ≡ marker
     unfolding markerAt pastFill
-    marker-here ne = rw (left-more, ne-eqb (byteAt s at) fill ne) at inv
+    marker-here ne = rw (left-more, ne-eqb (byteAt s at) prefix ne) at inv
 
-    pub marker-later : byteAt s at ≡ fill → markerAt s (at + 1) ≡ marker
+    pub marker-later : byteAt s at ≡ prefix → markerAt s (at + 1) ≡ marker
     unfolding markerAt pastFill
-    marker-later e = rw (left-more, eq-eqb (byteAt s at) fill e, ← add-one at) at inv
+    marker-later e = rw (left-more, eq-eqb (byteAt s at) prefix e, ← add-one at) at inv

@@ -13,19 +13,15 @@ use Rattle.rules.specs.Doc.Bytes.{byteAt, Span}
 use Rattle.rules.specs.Doc.Walks.{Then, onward, halt, over, met, Walk, bare, walked, judged, after, run}
 use Rattle.rules.specs.Laws.Rows.{bind-fine, by-test}
 use Rattle.rules.specs.Laws.Unroll.{Forward, unroll}
-use Rattle.jpeg_rules.specs.Doc.Segments.{fill, endsSearch, markerAt, Segment, bodyAt, body, sizeRead, segmentAt, isExif, sizeTest, said, segmentMet, segmentStep, segments}
-use Rattle.jpeg_rules.specs.Doc.Block.{blockIn, found}
+use Rattle.jpeg_rules.specs.Doc.Segments.{prefix, endsSearch, markerAt, Segment, bodyAt, body, lengthRead, segmentAt, isExif, lengthTest, said, segmentMet, segmentStep, segments}
+use Rattle.jpeg_rules.specs.Doc.Block.{blockIn, found, foundIn}
 use Rattle.jpeg_rules.specs.Laws.Marker.{marker-least}
 use Rattle.jpeg.specs.Told.{Lead, on, block}
-use Rattle.jpeg.specs.Segments.{leadBy, leadOf, leadAt}
+use Rattle.jpeg.specs.Leads.{leadBy, leadOf, leadAt}
 
 -- ---- Definitions
 
--- where the block of an image lies, or why there is none
-unfoldable pub foundIn : List ℕ → Outcome Span
-foundIn s = found s (segments s .end)
-
--- the same, of the segments from a position on
+-- where the block lies, by the segments from a position on
 unfoldable pub foundFrom : List ℕ → ℕ → Outcome Span
 foundFrom s at = found s (run (segmentStep s) (length s) at .end)
 
@@ -40,10 +36,10 @@ module _ (s : List ℕ) where
   unfolding segmentAt body bodyAt
   segment-ahead at {x} e =
       let here = markerAt s at in
-      let (u, f, e₁) = bind-fine (require (eqb (byteAt s at) fill) 32) _ e in
+      let (u, f, e₁) = bind-fine (require (eqb (byteAt s at) prefix) 32) _ e in
       let (v, g, e₂) = bind-fine (require (ltb here (length s)) 2) _ e₁ in
-      let (size, h, e₃) = bind-fine (sizeRead s here (byteAt s here)) _ e₂ in
-      let z : x ≡ record { start = at; at = here; marker = byteAt s here; size = size } = cc in
+      let (size, h, e₃) = bind-fine (lengthRead s here (byteAt s here)) _ e₂ in
+      let z : x ≡ record { start = at; at = here; marker = byteAt s here; length = size } = cc in
       rw z (go size)
     where
       go : (size : Option ℕ) → at < bodyAt (markerAt s at) size .to
@@ -54,7 +50,7 @@ module _ (s : List ℕ) where
   said-on : (x : Segment) {next : ℕ} → fine (onward next) ≡ said s x → next ≡ body x .to
   unfolding said
   said-on x {next} e =
-      let (u, f, e₁) = bind-fine (sizeTest (x .size)) _ e in
+      let (u, f, e₁) = bind-fine (lengthTest (x .length)) _ e in
       let (v, g, e₂) = bind-fine (require (leb (body x .to) (length s)) 2) _ e₁ in
       go (endsSearch (x .marker) || isExif s x) e₂
     where
@@ -110,7 +106,7 @@ module _ (s : List ℕ) where
   found-next at h = rw (found-step at, lt-leb (length s) at h) (found-met at (segmentAt s at))
 
   pub found-start : foundFrom s 2 ≡ foundIn s
-  unfolding foundFrom foundIn segments
+  unfolding foundFrom segments
   found-start = refl
 
 -- in the loop: the segments from `at` on decide the answer

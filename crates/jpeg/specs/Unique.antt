@@ -4,7 +4,7 @@ use mathlib.Core.Bool.{Bool}
 use mathlib.Core.List.{List}
 use Prim.Native.Nat.{ℕ}
 use Rattle.jpeg_rules.specs.Doc.Block.{isJpeg, jpegBlock, jpegAnswer}
-use Rattle.jpeg_rules.specs.Laws.Numbers.{jpeg-early}
+use Rattle.jpeg_rules.specs.Laws.Refusals.{jpeg-early}
 use Rattle.output.specs.Told.{told}
 use Rattle.output.specs.Demands.{answer-one}
 use Rattle.output.specs.declared.Extracted.{Extracted}

@@ -16,11 +16,11 @@ use Rattle.rules.specs.OverBytes.{answerOf, refusal}
 use Rattle.rules.specs.Laws.Rows.{bind-fine, required, both}
 use Rattle.rules.specs.Laws.Lies.{Lies}
 use Rattle.rules.specs.Laws.Gather.{onFine, image-bytes, answer-refused, answer-with}
-use Rattle.jpeg_rules.specs.Doc.Segments.{Segment, body, exifName, APP1, isExif, sizeTest, said}
+use Rattle.jpeg_rules.specs.Doc.Segments.{Segment, body, exifName, APP1, isExif, lengthTest, said}
 use Rattle.jpeg_rules.specs.Doc.Block.{isJpeg, behindName, jpegBlock, jpegAnswer}
 use Rattle.jpeg_rules.specs.Laws.Stopped.{stopped-read}
 use Rattle.jpeg_rules.specs.Laws.Limit.{found-behind}
-use Rattle.jpeg.specs.Search.{foundIn}
+use Rattle.jpeg_rules.specs.Doc.Block.{foundIn}
 
 -- ---- Where the block lies
 
@@ -35,12 +35,12 @@ module _ (s : List ℕ) where
   stopped-whole : (x : Segment) → said s x ≡ fine halt → body x .to ≤ length s
   unfolding said
   stopped-whole x e =
-      let (u, f, e₁) = bind-fine (sizeTest (x .size)) _ (sym e) in
+      let (u, f, e₁) = bind-fine (lengthTest (x .length)) _ (sym e) in
       let (v, g, e₂) = bind-fine (require (leb (body x .to) (length s)) 2) _ e₁ in
       leb-true (body x .to) (length s) (required _ 2 g)
 
   pub found-lies : {p : Span} → fine p ≡ foundIn s → Lies (length s) p
-  unfolding foundIn behindName
+  unfolding behindName
   found-lies {p} e =
       let (x, f, exif, z) = found-behind s e in
       let (at, g, h) = stopped-read s x f in
@@ -55,7 +55,7 @@ module _ (img out : List ℕ) {yes : Bool} (j : yes ≡ isJpeg img) where
 
   module _ (k : yes ≡ true) where
     jpeg-answer : jpegAnswer img out ≡ answerOf out (onFine (λ p. part img (p .from) (sizeOf p)) (foundIn img))
-    unfolding jpegBlock foundIn
+    unfolding jpegBlock
     jpeg-answer = answer-with img out (jpegBlock img) ∙ rw (← j, k) (ap (answerOf out) (go (foundIn img) refl))
       where
         go : (o : Outcome Span) → o ≡ foundIn img

@@ -12,9 +12,10 @@ use output::Extracted;
 use search::Found;
 use search::find;
 
-// FF D8, with which an image starts.
+// FF D8, with which a JPEG image starts.
 const JPEG_SIG: u16 = 0xffd8;
 
+// By its first two bytes alone: a yes doesn't say that anything follows.
 pub fn is_jpeg(buf: &[u8]) -> bool
     ensures { λ r. ⌜ r ≡ isJpeg (now (buf .entry)) ⌝ }
 {

@@ -5,17 +5,19 @@ ghost use Rattle.jpeg_rules.specs.Doc.Segments.{endsSearch, lacksLength, marker
 // Stands before every marker; more of them are fill.
 pub(crate) const PREFIX: u8 = 0xff;
 
+// 01, and D0 to D7, which stand inside a scan: those without a length.
 const TEM: u8 = 0x01;
 
 const RST0: u8 = 0xd0;
 
 const RST7: u8 = 0xd7;
 
+// D9, the end of the image, and DA, behind which a scan follows.
 const EOI: u8 = 0xd9;
 
 const SOS: u8 = 0xda;
 
-// The one whose segment may hold Exif.
+// E1, whose segment may hold Exif.
 pub(crate) const APP1: u8 = 0xe1;
 
 pub(crate) fn ends_search(marker: u8) -> bool

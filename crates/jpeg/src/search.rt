@@ -1,7 +1,7 @@
 // The segments, up to the one that ends the search.
 ghost use mathlib.Core.Path.{_≡_};
 ghost use Rattle.jpeg.specs.Told.{foundOf};
-ghost use Rattle.jpeg.specs.Search.{foundIn};
+ghost use Rattle.jpeg_rules.specs.Doc.Block.{foundIn};
 use crate::segment::Next;
 use crate::segment::read_segment;
 use boxes::Refusal;

@@ -5,7 +5,7 @@ ghost use lib.ListN.{length};
 ghost use Rattle.jpeg.specs.Told.{bodyOf, nextOf};
 ghost use Rattle.jpeg.specs.Exif.{exifBody};
 ghost use Rattle.jpeg.specs.Bodies.{bodyEnd};
-ghost use Rattle.jpeg.specs.Segments.{leadAt};
+ghost use Rattle.jpeg.specs.Leads.{leadAt};
 use crate::marker::APP1;
 use crate::marker::PREFIX;
 use crate::marker::ends_search;
@@ -13,13 +13,13 @@ use crate::marker::lacks_length;
 use crate::marker::marker_at;
 use boxes::Refusal;
 
-// `Exif`, which two zero bytes follow.
+// The first four bytes of the name; two zero bytes follow.
 const EXIF: u32 = 0x45786966;
 
-// How many bytes that is: the block stands behind them.
+// How long the name is, with its zero bytes: the block stands behind it.
 const NAME_SIZE: usize = 6;
 
-// How many bytes stand before a body: the marker's and the two of the length.
+// From the marker byte to the body: that byte, and the two of the length.
 const HEAD: usize = 3;
 
 fn is_exif(marker: u8, body: &[u8]) -> bool
@@ -40,7 +40,7 @@ enum Body {
     Refused(Refusal),
 }
 
-// Of the segment whose marker byte stands at `at`. The length counts its own two bytes. No sum is made before it is known to be inside the image.
+// Of the segment whose marker byte stands at `at`. The length counts its own two bytes. The tests subtract, so that no sum can overflow.
 fn body_end(image: &[u8], at: usize) -> Body
     requires { ⌜ at < length (now image) ⌝ }
     ensures { λ r. ⌜ bodyOf r ≡ bodyEnd (now (image .entry)) at ⌝ }
@@ -48,14 +48,14 @@ fn body_end(image: &[u8], at: usize) -> Body
     if image.len() - at < HEAD {
         return Body::Refused(Refusal::ImageEnds);
     }
-    let size = endian::loadu16(image, at + 1) as usize;
-    if size < 2 {
+    let length = endian::loadu16(image, at + 1) as usize;
+    if length < 2 {
         return Body::Refused(Refusal::SegmentTooSmall);
     }
-    if image.len() - at - 1 < size {
+    if image.len() - at - 1 < length {
         return Body::Refused(Refusal::ImageEnds);
     }
-    Body::To(at + 1 + size)
+    Body::To(at + 1 + length)
 }
 
 // What a segment leads to: the next one's position; where the block is; or a refusal. A search that ends with no block is refused too.
@@ -82,15 +82,17 @@ pub(crate) fn read_segment(image: &[u8], start: usize) -> Next
         return Next::Refused(Refusal::NotFound);
     }
     if lacks_length(marker) {
-        return Next::On(at + 1);
+        let next = at + 1;
+        return Next::On(next);
     }
     match body_end(image, at) {
         Body::Refused(e) => Next::Refused(e),
         Body::To(to) => {
             let from = at + HEAD;
             if is_exif(marker, &image[from..to]) {
+                let block = from + NAME_SIZE;
                 return Next::Block {
-                    from: from + NAME_SIZE,
+                    from: block,
                     to: to,
                 };
             }

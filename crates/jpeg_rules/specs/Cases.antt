@@ -7,7 +7,7 @@ use lib.ListN.{take, drop}
 use lib.Dec.{T}
 use Rattle.rules.specs.Cases.{line, Case, fresh, refuses, gives, H, sameAnswer, same, every}
 use Rattle.jpeg_rules.specs.Doc.Block.{jpegAnswer}
-use Rattle.jpeg_rules.specs.Doc.Photo.{photoAnswer}
+use Rattle.jpeg_rules.specs.Doc.Either.{eitherAnswer}
 use Rattle.jpeg_rules.specs.Unfold.{request}
 
 -- one Exif segment with a block of four bytes, and D9
@@ -76,8 +76,8 @@ unfolding request every right sameAnswer same cases refuses gives fresh J H befo
 all-cases = tt
 
 -- The entry above both: H and J each get their reader, and what is neither gets what the HEIF reader says.
-unfoldable pub photoCases : List Case
-photoCases =
+unfoldable pub eitherCases : List Case
+eitherCases =
     gives J block
     ∷ gives H block
     ∷ refuses [] 1
@@ -87,9 +87,9 @@ photoCases =
     ∷ refuses (before 1 0x00) 32
     ∷ []
 
-unfoldable pub photoRight : Case → Bool
-photoRight c = sameAnswer (photoAnswer (c .image) (c .output)) (c .answer)
+unfoldable pub eitherRight : Case → Bool
+eitherRight c = sameAnswer (eitherAnswer (c .image) (c .output)) (c .answer)
 
-pub all-photo-cases : T (every photoRight photoCases)
-unfolding request every photoRight sameAnswer same photoCases refuses gives fresh J H before block line
-all-photo-cases = tt
+pub all-either-cases : T (every eitherRight eitherCases)
+unfolding request every eitherRight sameAnswer same eitherCases refuses gives fresh J H before block line
+all-either-cases = tt

@@ -7,4 +7,4 @@ pub mod Block
 -- Bytes consulted.
 pub mod Consulted
 -- The entry above both formats.
-pub mod Photo
+pub mod Either

@@ -1,6 +1,6 @@
 -- Laws that the proofs cite.
 -- the numbers that can be given
-pub mod Numbers
+pub mod Refusals
 -- where the marker byte stands
 pub mod Marker
 -- agreement of two images

@@ -6,17 +6,17 @@ use Prim.Native.Nat.{ℕ}
 use Rattle.rules.specs.Doc.Heif.{isHeif}
 use Rattle.rules.specs.Doc.Answers.{Answer, answer}
 use Rattle.jpeg_rules.specs.Doc.Block.{isJpeg, jpegAnswer}
-use Rattle.jpeg_rules.specs.Doc.Photo.{photoBlock, photoAnswer}
+use Rattle.jpeg_rules.specs.Doc.Either.{eitherBlock, eitherAnswer}
 
 module _ (img out : List ℕ) {a : Answer} {heif : Bool} (e : heif ≡ isHeif img) where
-  pub as-heif : heif ≡ true → a ≡ answer img out → a ≡ photoAnswer img out
-  unfolding photoBlock
+  pub as-heif : heif ≡ true → a ≡ answer img out → a ≡ eitherAnswer img out
+  unfolding eitherBlock
   as-heif h r = rw (← e, h) r
 
-  pub as-jpeg : {jpeg : Bool} → heif ≡ false → jpeg ≡ isJpeg img → jpeg ≡ true → a ≡ jpegAnswer img out → a ≡ photoAnswer img out
-  unfolding photoBlock
+  pub as-jpeg : {jpeg : Bool} → heif ≡ false → jpeg ≡ isJpeg img → jpeg ≡ true → a ≡ jpegAnswer img out → a ≡ eitherAnswer img out
+  unfolding eitherBlock
   as-jpeg h f j r = rw (← e, h, ← f, j) r
 
-  pub as-neither : {jpeg : Bool} → heif ≡ false → jpeg ≡ isJpeg img → jpeg ≡ false → a ≡ answer img out → a ≡ photoAnswer img out
-  unfolding photoBlock
+  pub as-neither : {jpeg : Bool} → heif ≡ false → jpeg ≡ isJpeg img → jpeg ≡ false → a ≡ answer img out → a ≡ eitherAnswer img out
+  unfolding eitherBlock
   as-neither h f j r = rw (← e, h, ← f, j) r

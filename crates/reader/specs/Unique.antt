@@ -2,12 +2,12 @@
 use mathlib.Core.Path.{_≡_}
 use mathlib.Core.List.{List}
 use Prim.Native.Nat.{ℕ}
-use Rattle.jpeg_rules.specs.Doc.Photo.{photoBlock, photoAnswer}
-use Rattle.jpeg_rules.specs.Laws.Numbers.{photo-early}
+use Rattle.jpeg_rules.specs.Doc.Either.{eitherBlock, eitherAnswer}
+use Rattle.jpeg_rules.specs.Laws.Refusals.{either-early}
 use Rattle.output.specs.Told.{told}
 use Rattle.output.specs.Demands.{answer-one}
 use Rattle.output.specs.declared.Extracted.{Extracted}
 
-pub attr-one : (img out : List ℕ) (x y : Extracted) (after after′ : List ℕ) → told x after ≡ photoAnswer img out → told y after′ ≡ photoAnswer img out
+pub attr-one : (img out : List ℕ) (x y : Extracted) (after after′ : List ℕ) → told x after ≡ eitherAnswer img out → told y after′ ≡ eitherAnswer img out
     → (x ≡ y) × (after ≡ after′)
-attr-one img out x y after after′ e f = answer-one img out (photoBlock img) (photo-early img) x y after after′ e f
+attr-one img out x y after after′ e f = answer-one img out (eitherBlock img) (either-early img) x y after after′ e f

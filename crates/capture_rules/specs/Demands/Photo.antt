@@ -21,9 +21,9 @@ use Rattle.rules.specs.Laws.Rows.{apart, both, bind-fine, bind-known}
 use Rattle.rules.specs.Laws.Endian.{Bytes}
 use Rattle.rules.specs.Laws.Numbered.{with-number}
 use Rattle.rules.specs.Laws.Room.{Early}
-use Rattle.jpeg_rules.specs.Doc.Photo.{photoBlock, photoAnswer, photoConsulted}
-use Rattle.jpeg_rules.specs.Laws.Numbers.{photo-early}
-use Rattle.jpeg_rules.specs.Demands.One.{photo-limit, photo-number}
+use Rattle.jpeg_rules.specs.Doc.Either.{eitherBlock, eitherAnswer, eitherConsulted}
+use Rattle.jpeg_rules.specs.Laws.Refusals.{either-early}
+use Rattle.jpeg_rules.specs.Demands.One.{either-limit, either-number}
 use Rattle.jpeg_rules.specs.Demands.Three as extraction
 use Rattle.capture_rules.specs.Doc.Header.{Header, header}
 use Rattle.capture_rules.specs.Doc.Fraction.{Fraction}
@@ -68,18 +68,18 @@ module _ (img out : List ℕ) where
       go false = refl
 
   -- What is said of an image is what its block says, if it has one and there is room for it.
-  pub photo-is : photo img out ≡ (photoBlock img >>= saidBy)
+  pub photo-is : photo img out ≡ (eitherBlock img >>= saidBy)
   unfolding photo
-  photo-is = handed-on (photoBlock img) (photo-early img)
+  photo-is = handed-on (eitherBlock img) (either-early img)
 
   -- With room for the block, it is what the block says.
-  pub with-room : {ps : List ℕ} → photoBlock img ≡ fine ps → length ps ≤ length out → photo img out ≡ capture (bytesAt img ps)
+  pub with-room : {ps : List ℕ} → eitherBlock img ≡ fine ps → length ps ≤ length out → photo img out ≡ capture (bytesAt img ps)
   with-room {ps} e h = rw (photo-is, e, le-leb (length ps) (length out) h)
 
   -- Where something is handed out, there is a block that says it: so what is claimed of a block holds of it.
-  pub photo-block : {c : Capture} → photo img out ≡ fine c → (ps : List ℕ) × (photoBlock img ≡ fine ps) × (capture (bytesAt img ps) ≡ fine c)
+  pub photo-block : {c : Capture} → photo img out ≡ fine c → (ps : List ℕ) × (eitherBlock img ≡ fine ps) × (capture (bytesAt img ps) ≡ fine c)
   photo-block e =
-      let (ps, p, q) = bind-fine (photoBlock img) saidBy (sym e ∙ photo-is) in
+      let (ps, p, q) = bind-fine (eitherBlock img) saidBy (sym e ∙ photo-is) in
       let (u, r, s) = bind-fine (require (leb (length ps) (length out)) 28) (λ u. capture (bytesAt img ps)) q in
       (ps, sym p, sym s)
 
@@ -89,7 +89,7 @@ module _ (img out : List ℕ) where
 
   -- A bias is a fraction in lowest terms that stands in the block.
   pub photo-lowest : Bytes img → {c : Capture} → photo img out ≡ fine c → {f : Fraction} → c .bias ≡ some f
-      → (ps : List ℕ) × (photoBlock img ≡ fine ps) × (h : Header) × (header (bytesAt img ps) ≡ fine h) × InLowestTerms (h .order) (bytesAt img ps) f
+      → (ps : List ℕ) × (eitherBlock img ≡ fine ps) × (h : Header) × (header (bytesAt img ps) ≡ fine h) × InLowestTerms (h .order) (bytesAt img ps) f
   photo-lowest bytes e g =
       let (ps, p, q) = photo-block e in
       let (h, r, lowest) = bias-lowest (bytesAt img ps) q (bytes-of-block img ps bytes) g in
@@ -103,24 +103,24 @@ module _ (img out : List ℕ) where
 
 -- A buffer of 65,531 bytes or more has room for every block: how long it is and what stands in it have no say.
 pub any-large-buffer : (img out more : List ℕ) → Bytes img → 65531 ≤ length out → 65531 ≤ length more → photo img out ≡ photo img more
-any-large-buffer img out more b h k = photo-is img out ∙ (bind-known (photoBlock img) same ∙ sym (photo-is img more))
+any-large-buffer img out more b h k = photo-is img out ∙ (bind-known (eitherBlock img) same ∙ sym (photo-is img more))
   where
-    same : (ps : List ℕ) → photoBlock img ≡ fine ps → saidBy img out ps ≡ saidBy img more ps
+    same : (ps : List ℕ) → eitherBlock img ≡ fine ps → saidBy img out ps ≡ saidBy img more ps
     same ps e =
-        let l = photo-limit img b e in
+        let l = either-limit img b e in
         rw (le-leb (length ps) (length out) (le-trans l h), le-leb (length ps) (length more) (le-trans l k))
 
 -- ---- Refusals
 
 -- the number of extraction, from 1 to 33
 pub record ByExtraction (img out : List ℕ) (n : ℕ) : Type 0 where
-  pub number : photoAnswer img out .number ≡ n
+  pub number : eitherAnswer img out .number ≡ n
   pub least : 1 ≤ n
   pub most : n ≤ 33
 
 -- extraction answered 0, and the number is from 34 to 39
 pub record ByBlock (img out : List ℕ) (n : ℕ) : Type 0 where
-  pub number : photoAnswer img out .number ≡ 0
+  pub number : eitherAnswer img out .number ≡ 0
   pub least : 34 ≤ n
   pub most : n ≤ 39
 
@@ -138,23 +138,23 @@ block-refusal b e = go (capture b) e (capture-numbered b)
 
 module _ (img out : List ℕ) where
   -- A number of extraction other than 0 refuses the image.
-  pub extraction-refuses : (photoAnswer img out .number ≡ 0 → ⊥) → photo img out ≡ refused (photoAnswer img out .number)
+  pub extraction-refuses : (eitherAnswer img out .number ≡ 0 → ⊥) → photo img out ≡ refused (eitherAnswer img out .number)
   unfolding photo ofAnswer
-  extraction-refuses h = rw (ne-eqb (photoAnswer img out .number) 0 h)
+  extraction-refuses h = rw (ne-eqb (eitherAnswer img out .number) 0 h)
 
   -- By the number it can be told whether extraction refused the image or its block was refused.
   pub refused-by : {n : ℕ} → photo img out ≡ refused n → ByExtraction img out n ⊎ ByBlock img out n
   unfolding photo ofAnswer
-  refused-by {n} e = go (eqb (photoAnswer img out .number) 0) refl
+  refused-by {n} e = go (eqb (eitherAnswer img out .number) 0) refl
     where
-      go : (t : Bool) → eqb (photoAnswer img out .number) 0 ≡ t → ByExtraction img out n ⊎ ByBlock img out n
+      go : (t : Bool) → eqb (eitherAnswer img out .number) 0 ≡ t → ByExtraction img out n ⊎ ByBlock img out n
       go true f =
-          let l = block-refusal (take (photoAnswer img out .length) (photoAnswer img out .output)) (rw f at e) in
-          inr (record { number = eqb-true (photoAnswer img out .number) 0 f; least = l .0; most = l .1 })
+          let l = block-refusal (take (eitherAnswer img out .length) (eitherAnswer img out .output)) (rw f at e) in
+          inr (record { number = eqb-true (eitherAnswer img out .number) 0 f; least = l .0; most = l .1 })
       go false f =
-          let z : photoAnswer img out .number ≡ 0 → ⊥ = eqb-false (photoAnswer img out .number) 0 f in
-          let same : photoAnswer img out .number ≡ n = same-number (sym (extraction-refuses z) ∙ e) in
-          inl (record { number = same; least = rw (← same) (pos-of-ne-zero z); most = rw (← same) (photo-number img out) })
+          let z : eitherAnswer img out .number ≡ 0 → ⊥ = eqb-false (eitherAnswer img out .number) 0 f in
+          let same : eitherAnswer img out .number ≡ n = same-number (sym (extraction-refuses z) ∙ e) in
+          inl (record { number = same; least = rw (← same) (pos-of-ne-zero z); most = rw (← same) (either-number img out) })
 
 -- ---- The line
 
@@ -171,6 +171,6 @@ line-limit img out = go (photo img out) refl
 -- ---- Bytes consulted
 
 -- Demand 3: pictures have no say. Of two images of one length that agree on the bytes consulted for the first, the same is said.
-pub photo-quiet : (a b out : List ℕ) → length a ≡ length b → Agree a b (photoConsulted a (length out)) → photo a out ≡ photo b out
+pub photo-quiet : (a b out : List ℕ) → length a ≡ length b → Agree a b (eitherConsulted a (length out)) → photo a out ≡ photo b out
 unfolding photo
-photo-quiet a b out e g = ap ofAnswer (extraction.photo-quiet a b e out g)
+photo-quiet a b out e g = ap ofAnswer (extraction.either-quiet a b e out g)

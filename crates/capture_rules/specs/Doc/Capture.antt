@@ -8,7 +8,7 @@ use lib.Dec.{eqb}
 use Rattle.rules.specs.Doc.Outcomes.{Outcome, fine, _>>=_, require, given}
 use Rattle.rules.specs.Doc.Endian.{Endian, numberIn}
 use Rattle.rules.specs.Doc.Answers.{Answer}
-use Rattle.jpeg_rules.specs.Doc.Photo.{photoAnswer}
+use Rattle.jpeg_rules.specs.Doc.Either.{eitherAnswer}
 use Rattle.capture_rules.specs.Doc.Header.{header}
 use Rattle.capture_rules.specs.Doc.Directory.{ASCII, LONG, SRATIONAL, exifPointer, dateTimeOriginal, exposureBiasValue, Entry, Directory, directory, find, holds, valueOf}
 use Rattle.capture_rules.specs.Doc.Time.{Time, time}
@@ -86,4 +86,4 @@ ofAnswer a = require (eqb (a .number) 0) (a .number) >>= λ u. capture (take (a 
 
 -- of an image, HEIF or JPEG, by extraction into an output buffer
 unfoldable pub photo : List ℕ → List ℕ → Outcome Capture
-photo img out = ofAnswer (photoAnswer img out)
+photo img out = ofAnswer (eitherAnswer img out)

@@ -1,7 +1,7 @@
 -- As `coinbarrow_exif`. That no length takes more than 32 bits is known of an image that is made of bytes, as a slice is.
 use mathlib.Core.Path.{_∙_}
 use borrow.Author.Needs.{needs}
-use Rattle.jpeg_rules.specs.Demands.One.{photo-length}
+use Rattle.jpeg_rules.specs.Demands.One.{either-length}
 use Rattle.coinbarrow.specs.Packed.{length-fits}
 use Rattle.coinbarrow.proofs.coinbarrow_photo.Statement.{statement}
 use Rattle.coinbarrow.proofs.coinbarrow_photo.Tie as tie
@@ -12,7 +12,7 @@ get-exif-attr-requires c κs = search needs
 packed-answer-requires : tie.Need-packed-answer-requires
 packed-answer-requires c κs =
     let x = c .before .before .get-exif-attr in
-    length-fits (x .result) (x .last .1 .0) (x .ensures) (photo-length _ _ (c .before .before .before .before .before .shared-slice-known .given))
+    length-fits (x .result) (x .last .1 .0) (x .ensures) (either-length _ _ (c .before .before .before .before .before .shared-slice-known .given))
 
 same-length : tie.Need-same-length
 same-length c = search needs

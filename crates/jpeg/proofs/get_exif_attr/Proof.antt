@@ -3,7 +3,7 @@ use mathlib.Core.Path.{_≡_}
 use native.Mathlib.Omega.{arith}
 use borrow.Author.Tests.{not-true, not-false}
 use Rattle.rules.specs.Doc.Outcomes.{fine}
-use Rattle.jpeg.specs.Search.{foundIn}
+use Rattle.jpeg_rules.specs.Doc.Block.{foundIn}
 use Rattle.jpeg.specs.Whole.{found-lies, not-jpeg, jpeg-refused, jpeg-found}
 use borrow.Author.Needs.{needs}
 use Rattle.jpeg.proofs.get_exif_attr.Statement.{statement}

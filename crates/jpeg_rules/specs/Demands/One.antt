@@ -20,9 +20,9 @@ use Rattle.rules.specs.Laws.Limit.{block-limit}
 use Rattle.rules.specs.Demands.One as every
 use Rattle.rules.specs.Demands.One.{Longer, Written}
 use Rattle.jpeg_rules.specs.Doc.Segments.{Segment, isExif, segments}
-use Rattle.jpeg_rules.specs.Doc.Block.{isJpeg, behindName, found, jpegBlock, jpegAnswer}
-use Rattle.jpeg_rules.specs.Doc.Photo.{photoBlock, photoAnswer}
-use Rattle.jpeg_rules.specs.Laws.Numbers.{jpeg-early, photo-early, photo-most, photo-not-31}
+use Rattle.jpeg_rules.specs.Doc.Block.{isJpeg, behindName, foundIn, jpegBlock, jpegAnswer}
+use Rattle.jpeg_rules.specs.Doc.Either.{eitherBlock, eitherAnswer}
+use Rattle.jpeg_rules.specs.Laws.Refusals.{jpeg-early, either-early, either-most, either-not-31}
 use Rattle.jpeg_rules.specs.Laws.Limit.{found-behind, jpeg-limit}
 
 -- ---- JPEG
@@ -55,16 +55,16 @@ pub block-held : (img : List ℕ) {ps : List ℕ} → jpegBlock img ≡ fine ps 
 unfolding jpegBlock
 block-held img {ps} e =
     let (u, f, g) = bind-fine (require (isJpeg img) 31) _ (sym e) in
-    let (p, h, i) = bind-fine (found img (segments img .end)) _ g in
+    let (p, h, i) = bind-fine (foundIn img) _ g in
     let (x, end, exif, z) = found-behind img h in
     let y : ps ≡ positions (p .from) (sizeOf p) = cc in
     record { segment = x; ended-search = end; exif = exif; behind = rw (← z) y }
 
 -- ---- The entry above both formats
 
-pub photo-limit : (img : List ℕ) → Bytes img → {ps : List ℕ} → photoBlock img ≡ fine ps → length ps ≤ 65531
-unfolding photoBlock
-photo-limit img b {ps} e = go (isHeif img) (isJpeg img) e
+pub either-limit : (img : List ℕ) → Bytes img → {ps : List ℕ} → eitherBlock img ≡ fine ps → length ps ≤ 65531
+unfolding eitherBlock
+either-limit img b {ps} e = go (isHeif img) (isJpeg img) e
   where
     go : (t j : Bool) → (if t then block img else if j then jpegBlock img else block img) ≡ fine ps → length ps ≤ 65531
     go true j e = block-limit img e
@@ -72,16 +72,16 @@ photo-limit img b {ps} e = go (isHeif img) (isJpeg img) e
     go false false e = block-limit img e
 
 module _ (img out : List ℕ) where
-  pub photo-length : Bytes img → photoAnswer img out .length ≤ 65531
-  photo-length b = every.length-within img out 65531 (photoBlock img) (λ ps e. photo-limit img b e)
+  pub either-length : Bytes img → eitherAnswer img out .length ≤ 65531
+  either-length b = every.length-within img out 65531 (eitherBlock img) (λ ps e. either-limit img b e)
 
-  pub photo-room : Bytes img → 65531 ≤ length out → photoAnswer img out .number ≡ 28 → ⊥
-  photo-room b h e = every.enough-room img out 65531 (photoBlock img) (photo-early img) (λ ps e. photo-limit img b e) h e
+  pub either-room : Bytes img → 65531 ≤ length out → eitherAnswer img out .number ≡ 28 → ⊥
+  either-room b h e = every.enough-room img out 65531 (eitherBlock img) (either-early img) (λ ps e. either-limit img b e) h e
 
   -- No number is above 33.
-  pub photo-number : photoAnswer img out .number ≤ 33
-  photo-number = every.number-within img out 33 (omega arith) (photoBlock img) (photo-most img)
+  pub either-number : eitherAnswer img out .number ≤ 33
+  either-number = every.number-within img out 33 (omega arith) (eitherBlock img) (either-most img)
 
   -- 31 is the JPEG reader's alone: what doesn't start FF D8 is asked of the HEIF reader.
-  pub photo-never-31 : photoAnswer img out .number ≡ 31 → ⊥
-  photo-never-31 e = every.never img out 31 (λ z. omega arith) (λ z. omega arith) (photoBlock img) (photo-not-31 img) e
+  pub either-never-31 : eitherAnswer img out .number ≡ 31 → ⊥
+  either-never-31 e = every.never img out 31 (λ z. omega arith) (λ z. omega arith) (eitherBlock img) (either-not-31 img) e

@@ -16,14 +16,14 @@ use Rattle.rules.specs.Doc.Ftyp.{stopped}
 use Rattle.rules.specs.Doc.Block.{block}
 use Rattle.rules.specs.Doc.Heif.{heifLevel, isHeif}
 use Rattle.rules.specs.Doc.Answers.{handed, answerBy}
-use Rattle.rules.specs.Doc.Consulted.{walkBytes, boxesBytes, consulted, Agree}
+use Rattle.rules.specs.Doc.Consulted.{boxesBytes, consulted, Agree}
 use Rattle.rules.specs.Laws.Agreement.{agree-left, agree-right, range-of, number-same, once-same}
 use Rattle.rules.specs.Laws.SameBoxes.{boxes-same}
 use Rattle.rules.specs.Demands.Three.{answers-same, quiet}
 use Rattle.jpeg_rules.specs.Doc.Segments.{Segment, isExif, segments}
-use Rattle.jpeg_rules.specs.Doc.Block.{isJpeg, blockIn, found, jpegBlock, jpegAnswer}
-use Rattle.jpeg_rules.specs.Doc.Consulted.{startBytes, testedBytes, segmentBytes, jpegConsulted}
-use Rattle.jpeg_rules.specs.Doc.Photo.{photoBlock, photoAnswer, photoConsulted}
+use Rattle.jpeg_rules.specs.Doc.Block.{isJpeg, blockIn, found, foundIn, jpegBlock, jpegAnswer}
+use Rattle.jpeg_rules.specs.Doc.Consulted.{startBytes, searchBytes, jpegConsulted}
+use Rattle.jpeg_rules.specs.Doc.Either.{eitherBlock, eitherAnswer, eitherConsulted}
 use Rattle.jpeg_rules.specs.Laws.SameSegments.{segments-same}
 use Rattle.jpeg_rules.specs.Laws.Stopped.{stopped-read, stopped-exif}
 
@@ -41,7 +41,7 @@ module _ (a b : List ℕ) (e : length a ≡ length b) where
           rw (number-same a b 0 (0 + min 2 (length a)) 0 2 (range-of a b 0 (min 2 (length a)) g) (omega arith) (omega arith))
 
   -- the segment that ended the walk is an Exif segment in both, or in neither
-  found-same : segments a ≡ segments b → found a (segments a .end) ≡ found b (segments b .end)
+  found-same : segments a ≡ segments b → foundIn a ≡ foundIn b
   unfolding found blockIn
   found-same w = go (segments a .end) refl ∙ ap (λ (w : Walk Segment). found b (w .end)) w
     where
@@ -55,14 +55,14 @@ module _ (a b : List ℕ) (e : length a ≡ length b) where
           let same : isExif a x ≡ isExif b x = stopped-exif a x i ∙ sym (stopped-exif b x k) in
           rw same
 
-  search-same : Agree a b (walkBytes (segmentBytes a) (testedBytes a) (segments a)) → found a (segments a .end) ≡ found b (segments b .end)
+  search-same : Agree a b (searchBytes a) → foundIn a ≡ foundIn b
   search-same g = found-same (segments-same a b e g)
 
-  jpeg-same : Agree a b (startBytes a) → Agree a b (once (λ u. walkBytes (segmentBytes a) (testedBytes a) (segments a)) (require (isJpeg a) 31))
+  jpeg-same : Agree a b (startBytes a) → Agree a b (once (λ u. searchBytes a) (require (isJpeg a) 31))
       → jpegBlock a ≡ jpegBlock b
   unfolding jpegBlock
   jpeg-same g h =
-      once-same a b (λ u. walkBytes (segmentBytes a) (testedBytes a) (segments a)) (λ u. placed (found a (segments a .end))) (λ u. placed (found b (segments b .end)))
+      once-same a b (λ u. searchBytes a) (λ u. placed (foundIn a)) (λ u. placed (foundIn b))
       (λ u k. ap placed (search-same k)) (require (isJpeg a) 31) (require (isJpeg b) 31) h (ap (λ (t : Bool). require t 31) (start-same g))
     where
       placed : Outcome Span → Outcome (List ℕ)
@@ -72,7 +72,7 @@ module _ (a b : List ℕ) (e : length a ≡ length b) where
   unfolding jpegConsulted
   jpeg-quiet out g =
       let p : List ℕ = startBytes a in
-      let q : List ℕ = once (λ u. walkBytes (segmentBytes a) (testedBytes a) (segments a)) (require (isJpeg a) 31) in
+      let q : List ℕ = once (λ u. searchBytes a) (require (isJpeg a) 31) in
       let r : List ℕ = once (handed (length out)) (jpegBlock a) in
       let h : Agree a b (q ++ r) = agree-right a b p (q ++ r) g in
       answers-same a b out (agree-right a b q r h) (jpeg-same (agree-left a b p (q ++ r) g) (agree-left a b q r h))
@@ -83,9 +83,9 @@ module _ (a b : List ℕ) (e : length a ≡ length b) where
   unfolding isHeif
   heif-same g = ap (λ (w : Walk Box). isFine (stopped (w .end))) (boxes-same heifLevel a b 0 e g)
 
-  pub photo-quiet : (out : List ℕ) → Agree a b (photoConsulted a (length out)) → photoAnswer a out ≡ photoAnswer b out
-  unfolding photoConsulted photoBlock
-  photo-quiet out g =
+  pub either-quiet : (out : List ℕ) → Agree a b (eitherConsulted a (length out)) → eitherAnswer a out ≡ eitherAnswer b out
+  unfolding eitherConsulted eitherBlock
+  either-quiet out g =
       let p : List ℕ = boxesBytes heifLevel (length a) (boxes heifLevel a 0) in
       let q : List ℕ = startBytes a in
       let r : List ℕ = asked (isHeif a) (isJpeg a) in

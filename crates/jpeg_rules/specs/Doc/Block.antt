@@ -22,18 +22,22 @@ behindName x = record { from = body x .from + 6; to = body x .to }
 unfoldable pub blockIn : List ℕ → Segment → Outcome Span
 blockIn img x = if isExif img x then fine (behindName x) else refused 1
 
--- By how the walk ended. Where the bytes end, a marker is cut: 2.
+-- By how the search ended. Where the bytes end, a marker is cut: 2.
 unfoldable pub found : List ℕ → End Segment → Outcome Span
 found img ended = refused 2
 found img (cutAt n at) = refused n
 found img (refusedAt n x) = refused n
 found img (stoppedAt x) = blockIn img x
 
+-- where the block of an image lies, or why there is none
+abbrev pub foundIn : List ℕ → Outcome Span
+foundIn img = found img (segments img .end)
+
 -- Not starting FF D8 is 31.
 unfoldable pub jpegBlock : List ℕ → Outcome (List ℕ)
 jpegBlock img = do
   _ ← require (isJpeg img) 31
-  p ← found img (segments img .end)
+  p ← foundIn img
   fine (positions (p .from) (sizeOf p))
 
 -- the answer for an image and an output buffer: 28 comes last, as for HEIF

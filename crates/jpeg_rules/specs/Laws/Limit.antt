@@ -13,8 +13,8 @@ use Rattle.rules.specs.Doc.Walks.{End, ended, cutAt, refusedAt, stoppedAt}
 use Rattle.rules.specs.Laws.Rows.{apart, bind-fine}
 use Rattle.rules.specs.Laws.Numbers.{number-below}
 use Rattle.rules.specs.Laws.Endian.{Bytes}
-use Rattle.jpeg_rules.specs.Doc.Segments.{fill, endsSearch, lacksLength, markerAt, Segment, bodyAt, body, sizeAt, sizeRead, segmentAt, isExif, segments}
-use Rattle.jpeg_rules.specs.Doc.Block.{isJpeg, behindName, blockIn, found, jpegBlock}
+use Rattle.jpeg_rules.specs.Doc.Segments.{prefix, endsSearch, lacksLength, markerAt, Segment, bodyAt, body, lengthAt, lengthRead, segmentAt, isExif, segments}
+use Rattle.jpeg_rules.specs.Doc.Block.{isJpeg, behindName, blockIn, found, foundIn, jpegBlock}
 use Rattle.jpeg_rules.specs.Laws.Stopped.{stopped-read}
 
 positions-length : (at n : ℕ) → length (positions at n) ≡ n
@@ -24,38 +24,38 @@ positions-length at (suc n) = ap suc (positions-length (suc at) n)
 
 module _ (s : List ℕ) where
   -- a length that is read has two bytes
-  read-small : (at marker size : ℕ) → Bytes s → fine (some size) ≡ sizeRead s at marker → size < 65536
-  unfolding sizeRead sizeAt
+  read-small : (at marker size : ℕ) → Bytes s → fine (some size) ≡ lengthRead s at marker → size < 65536
+  unfolding lengthRead lengthAt
   read-small at marker size b e = go (endsSearch marker || lacksLength marker) e
     where
-      go : (t : Bool) → fine (some size) ≡ (if t then fine none else (sizeAt s at >>= λ size. fine (some size))) → size < 65536
+      go : (t : Bool) → fine (some size) ≡ (if t then fine none else (lengthAt s at >>= λ size. fine (some size))) → size < 65536
       go true e = absurd (let z : _≡_ {A = ℕ} 0 1 = cc in omega arith)
       go false e =
-          let (n, f, g) = bind-fine (sizeAt s at) (λ size. fine (some size)) e in
+          let (n, f, g) = bind-fine (lengthAt s at) (λ size. fine (some size)) e in
           let (u, h, i) = bind-fine (require (leb (at + 3) (length s)) 2) (λ u. fine (numberAt s (at + 1) 2)) f in
           let z : size ≡ numberAt s (at + 1) 2 = cc in
           rw z (number-below s (at + 1) 2 b)
 
-  segment-small : (start : ℕ) (x : Segment) {size : ℕ} → Bytes s → segmentAt s start ≡ fine x → x .size ≡ some size → size < 65536
+  segment-small : (start : ℕ) (x : Segment) {size : ℕ} → Bytes s → segmentAt s start ≡ fine x → x .length ≡ some size → size < 65536
   unfolding segmentAt
   segment-small start x {size} b e f =
       let at = markerAt s start in
-      let (u, g, h) = bind-fine (require (eqb (byteAt s start) fill) 32) _ (sym e) in
+      let (u, g, h) = bind-fine (require (eqb (byteAt s start) prefix) 32) _ (sym e) in
       let (v, i, j) = bind-fine (require (ltb at (length s)) 2) _ h in
-      let (size′, k, l) = bind-fine (sizeRead s at (byteAt s at)) _ j in
-      let z : x .size ≡ size′ = cc in
+      let (size′, k, l) = bind-fine (lengthRead s at (byteAt s at)) _ j in
+      let z : x .length ≡ size′ = cc in
       read-small at (byteAt s at) size b (rw (← f, z) k)
 
-  name-limit : (x : Segment) → ((size : ℕ) → x .size ≡ some size → size < 65536) → sizeOf (behindName x) ≤ 65527
+  name-limit : (x : Segment) → ((size : ℕ) → x .length ≡ some size → size < 65536) → sizeOf (behindName x) ≤ 65527
   unfolding behindName body bodyAt
-  name-limit x h = go (x .size) h
+  name-limit x h = go (x .length) h
     where
       go : (o : Option ℕ) → ((size : ℕ) → o ≡ some size → size < 65536) → bodyAt (x .at) o .to - (bodyAt (x .at) o .from + 6) ≤ 65527
       go none h = omega arith
       go (some size) h = omega (arith, h size refl)
 
   -- where a block lies, it lies behind the name in the segment that ended the search
-  pub found-behind : {p : Span} → fine p ≡ found s (segments s .end)
+  pub found-behind : {p : Span} → fine p ≡ foundIn s
       → (x : Segment) × (segments s .end ≡ stoppedAt x) × (isExif s x ≡ true) × (p ≡ behindName x)
   unfolding found blockIn
   found-behind {p} e = go (segments s .end) refl e
@@ -72,7 +72,7 @@ module _ (s : List ℕ) where
           by false k g = absurd (apart g)
           by true k g = (x, f, k, cc)
 
-  found-limit : {p : Span} → Bytes s → fine p ≡ found s (segments s .end) → sizeOf p ≤ 65527
+  found-limit : {p : Span} → Bytes s → fine p ≡ foundIn s → sizeOf p ≤ 65527
   found-limit {p} b e =
       let (x, f, k, z) = found-behind e in
       let (at, h, i) = stopped-read s x f in
@@ -82,6 +82,6 @@ pub jpeg-limit : (img : List ℕ) → Bytes img → {ps : List ℕ} → jpegBloc
 unfolding jpegBlock
 jpeg-limit img b {ps} e =
     let (u, f, g) = bind-fine (require (isJpeg img) 31) _ (sym e) in
-    let (p, h, i) = bind-fine (found img (segments img .end)) _ g in
+    let (p, h, i) = bind-fine (foundIn img) _ g in
     let z : ps ≡ positions (p .from) (sizeOf p) = cc in
     rw (z, positions-length (p .from) (sizeOf p)) (found-limit img b h)

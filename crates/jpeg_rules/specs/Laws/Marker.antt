@@ -8,12 +8,12 @@ use lib.ListN.{length}
 use lib.Dec.{eqb}
 use Rattle.rules.specs.Doc.Bytes.{byteAt}
 use Rattle.rules.specs.Laws.Rows.{by-test}
-use Rattle.jpeg_rules.specs.Doc.Segments.{fill, pastFill, markerAt}
+use Rattle.jpeg_rules.specs.Doc.Segments.{prefix, pastFill, markerAt}
 
 past-least : (s : List ℕ) (n at : ℕ) → at ≤ pastFill s n at
 unfolding pastFill
 past-least s zero at = omega arith
-past-least s (suc n) at = by-test (λ (p : ℕ). at ≤ p) (eqb (byteAt s at) fill) (λ e. omega (arith, past-least s n (suc at))) (λ e. omega arith)
+past-least s (suc n) at = by-test (λ (p : ℕ). at ≤ p) (eqb (byteAt s at) prefix) (λ e. omega (arith, past-least s n (suc at))) (λ e. omega arith)
 
 -- It stands at the position or behind it.
 pub marker-least : (s : List ℕ) (at : ℕ) → at ≤ markerAt s at
@@ -23,7 +23,7 @@ marker-least s at = past-least s (length s - at) at
 -- ---- Agreement
 
 module _ (a b : List ℕ) where
-  past-step : (n at : ℕ) (t : Bool) → eqb (byteAt a at) fill ≡ t → byteAt a at ≡ byteAt b at → (t ≡ true → pastFill a n (suc at) ≡ pastFill b n (suc at))
+  past-step : (n at : ℕ) (t : Bool) → eqb (byteAt a at) prefix ≡ t → byteAt a at ≡ byteAt b at → (t ≡ true → pastFill a n (suc at) ≡ pastFill b n (suc at))
       → pastFill a (suc n) at ≡ pastFill b (suc n) at
   unfolding pastFill
   past-step n at true e same later = rw (← same, e) (later refl)
@@ -33,7 +33,7 @@ module _ (a b : List ℕ) where
   unfolding pastFill
   past-same zero at h = refl
   past-same (suc n) at h =
-      past-step n at (eqb (byteAt a at) fill) refl (h at (omega arith) (past-least a (suc n) at) (omega arith))
+      past-step n at (eqb (byteAt a at) prefix) refl (h at (omega arith) (past-least a (suc n) at) (omega arith))
       (λ e. past-same n (suc at) (λ i j k l. h i (omega arith) (rw e k) (omega arith)))
 
   -- Images that agree on the FF bytes from a position on, and on the byte behind them if there is one, have the marker byte at the same place.

@@ -11,18 +11,18 @@ use borrow.Author.Tests.{leb-true, leb-false, ltb-true}
 use Rattle.rules.specs.Doc.Outcomes.{if_then_else_, Outcome, fine, refused, _>>=_, require}
 use Rattle.rules.specs.Doc.Bytes.{byteAt, numberAt, positions, sizeOf}
 use Rattle.rules.specs.Doc.Walks.{Then, halt, onward, Step, over, met, run}
-use Rattle.rules.specs.Doc.Consulted.{walkBytes, Agree}
+use Rattle.rules.specs.Doc.Consulted.{Agree}
 use Rattle.rules.specs.Laws.Agreement.{agree-left, agree-right, range-of, number-same}
 use Rattle.rules.specs.Laws.SameWalks.{stepBytes, run-same}
-use Rattle.jpeg_rules.specs.Doc.Segments.{fill, endsSearch, lacksLength, markerAt, Segment, bodyAt, body, sizeAt, sizeRead, segmentAt, exifName, APP1, isExif, sizeTest, said, segmentMet, segmentStep, segments}
-use Rattle.jpeg_rules.specs.Doc.Consulted.{testedBytes, segmentBytes}
+use Rattle.jpeg_rules.specs.Doc.Segments.{prefix, endsSearch, lacksLength, markerAt, Segment, bodyAt, body, lengthAt, lengthRead, segmentAt, exifName, APP1, isExif, lengthTest, said, segmentMet, segmentStep, segments}
+use Rattle.jpeg_rules.specs.Doc.Consulted.{testedBytes, headBytes, nameBytes, segmentBytes, searchBytes}
 use Rattle.jpeg_rules.specs.Laws.Marker.{marker-least, marker-same}
 
 -- ---- A segment
 
 -- what a look for a segment reads: its FF bytes, marker and length, or where none stands the bytes tested
 unfoldable lookBytes : List ℕ → ℕ → Outcome Segment → List ℕ
-lookBytes s start (fine x) = positions (x .start) (body x .from - x .start)
+lookBytes s start (fine x) = headBytes x
 lookBytes s start (refused n) = testedBytes s start
 
 module _ (a b : List ℕ) (e : length a ≡ length b) (start : ℕ) (inside : start < length a) where
@@ -54,12 +54,12 @@ module _ (a b : List ℕ) (e : length a ≡ length b) (start : ℕ) (inside : st
     mark-same h = same at (marker-least a start) (omega arith) h
 
   abbrev read : List ℕ → Option ℕ → Outcome Segment
-  read s size = fine (record { start = start; at = markerAt s start; marker = byteAt s (markerAt s start); size = size })
+  read s size = fine (record { start = start; at = markerAt s start; marker = byteAt s (markerAt s start); length = size })
 
   -- by the tests that a look makes: an FF, a marker byte, whether it has a length, and whether that is whole
-  looks-same : (t₁ t₂ t₃ t₄ : Bool) → eqb (byteAt a start) fill ≡ t₁ → ltb at (length a) ≡ t₂ → (endsSearch marker || lacksLength marker) ≡ t₃
+  looks-same : (t₁ t₂ t₃ t₄ : Bool) → eqb (byteAt a start) prefix ≡ t₁ → ltb at (length a) ≡ t₂ → (endsSearch marker || lacksLength marker) ≡ t₃
       → leb (at + 3) (length a) ≡ t₄ → Agree a b (lookBytes a start (segmentAt a start)) → segmentAt a start ≡ segmentAt b start
-  unfolding lookBytes segmentAt sizeRead sizeAt body bodyAt
+  unfolding lookBytes headBytes segmentAt lengthRead lengthAt body bodyAt
   looks-same false t₂ t₃ t₄ e₁ e₂ e₃ e₄ g =
       let same = tested-same (rw e₁ at g) in
       rw (← first-same same, e₁)
@@ -105,17 +105,14 @@ module _ (a b : List ℕ) (e : length a ≡ length b) (x : Segment) where
   unfolding isExif
   exif-same g = name-same (eqb (x .marker) APP1) (leb 6 size) refl g
 
-  abbrev nameBytes : Bool → List ℕ
-  nameBytes whole = if eqb (x .marker) APP1 then (if whole then positions from (min 6 size) else []) else []
-
-  said-same : Agree a b (nameBytes (leb (body x .to) (length a))) → said a x ≡ said b x
-  unfolding said
+  said-same : Agree a b (nameBytes a x) → said a x ≡ said b x
+  unfolding said nameBytes
   said-same g = go (leb (body x .to) (length a)) g ∙ ap (λ (n : ℕ). saidBy (leb (body x .to) n) (isExif b x)) e
     where
       saidBy : Bool → Bool → Outcome Then
-      saidBy whole exif = sizeTest (x .size) >>= λ u. require whole 2 >>= λ v. fine (if endsSearch (x .marker) || exif then halt else onward (body x .to))
+      saidBy whole exif = lengthTest (x .length) >>= λ u. require whole 2 >>= λ v. fine (if endsSearch (x .marker) || exif then halt else onward (body x .to))
 
-      go : (t : Bool) → Agree a b (nameBytes t) → saidBy t (isExif a x) ≡ saidBy t (isExif b x)
+      go : (t : Bool) → Agree a b (if eqb (x .marker) APP1 then (if t then positions from (min 6 size) else []) else []) → saidBy t (isExif a x) ≡ saidBy t (isExif b x)
       go true g = ap (saidBy true) (exif-same g)
       go false g = refl
 
@@ -128,12 +125,12 @@ module _ (a b : List ℕ) (e : length a ≡ length b) where
   -- the bytes of a step include those of the look for its segment
   step-looks : (at : ℕ) (o : Outcome Segment) → Agree a b (segmentStepBytes at (segmentMet a o)) → Agree a b (lookBytes a at o)
   unfolding segmentMet stepBytes lookBytes segmentBytes
-  step-looks at (fine x) g = agree-left a b (positions (x .start) (body x .from - x .start)) _ g
+  step-looks at (fine x) g = agree-left a b (headBytes x) _ g
   step-looks at (refused n) g = g
 
   met-same : (at : ℕ) (o : Outcome Segment) → Agree a b (segmentStepBytes at (segmentMet a o)) → segmentMet a o ≡ segmentMet b o
   unfolding segmentMet stepBytes segmentBytes
-  met-same at (fine x) g = ap (met x) (said-same a b e x (agree-right a b (positions (x .start) (body x .from - x .start)) _ g))
+  met-same at (fine x) g = ap (met x) (said-same a b e x (agree-right a b (headBytes x) _ g))
   met-same at (refused n) g = refl
 
   step-same : (at : ℕ) → Agree a b (segmentStepBytes at (segmentStep a at)) → segmentStep a at ≡ segmentStep b at
@@ -148,8 +145,8 @@ module _ (a b : List ℕ) (e : length a ≡ length b) where
           ∙ ap (segmentMet b) (segment-same a b e at (leb-false (length a) at f) (step-looks at (segmentAt a at) g))
 
   -- The same bytes consulted, the same segments walked, and the same end: by the law for every walk.
-  pub segments-same : Agree a b (walkBytes (segmentBytes a) (testedBytes a) (segments a)) → segments a ≡ segments b
-  unfolding segments
+  pub segments-same : Agree a b (searchBytes a) → segments a ≡ segments b
+  unfolding searchBytes segments
   segments-same g =
       run-same (segmentBytes a) (testedBytes a) a b (segmentStep a) (segmentStep b) step-same (length a) 2 g
       ∙ ap (λ (n : ℕ). run (segmentStep b) n 2) e

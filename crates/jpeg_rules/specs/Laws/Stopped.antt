@@ -12,7 +12,7 @@ use Rattle.rules.specs.Doc.Bytes.{numberAt, sizeOf}
 use Rattle.rules.specs.Doc.Walks.{Then, onward, halt, over, met, stoppedAt}
 use Rattle.rules.specs.Laws.Rows.{bind-fine}
 use Rattle.rules.specs.Laws.Stops.{stopped-met}
-use Rattle.jpeg_rules.specs.Doc.Segments.{endsSearch, Segment, body, segmentAt, exifName, APP1, isExif, sizeTest, said, segmentMet, segmentStep, segments}
+use Rattle.jpeg_rules.specs.Doc.Segments.{endsSearch, Segment, body, segmentAt, exifName, APP1, isExif, lengthTest, said, segmentMet, segmentStep, segments}
 
 module _ (s : List ℕ) (x : Segment) where
   abbrev Read : Outcome Segment → Outcome Then → Type 0
@@ -55,7 +55,7 @@ module _ (s : List ℕ) (x : Segment) where
   pub stopped-exif : said s x ≡ fine halt → isExif s x ≡ not (endsSearch (x .marker))
   unfolding said
   stopped-exif e =
-      let (u, f, g) = bind-fine (sizeTest (x .size)) _ (sym e) in
+      let (u, f, g) = bind-fine (lengthTest (x .length)) _ (sym e) in
       let (v, h, i) = bind-fine (require (leb (body x .to) (length s)) 2) _ g in
       go (endsSearch (x .marker)) (isExif s x) refl refl i
     where

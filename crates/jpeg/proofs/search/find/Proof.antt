@@ -5,7 +5,8 @@ use native.Mathlib.Omega.{arith}
 use lib.ListN.{length}
 use Rattle.rules.specs.Doc.Outcomes.{_>>=_}
 use Rattle.jpeg.specs.Told.{nextOf}
-use Rattle.jpeg.specs.Search.{foundIn, foundFrom, afterLead, found-start, search-next, search-done, on-ahead}
+use Rattle.jpeg_rules.specs.Doc.Block.{foundIn}
+use Rattle.jpeg.specs.Search.{foundFrom, afterLead, found-start, search-next, search-done, on-ahead}
 use borrow.Author.Needs.{needs}
 use Rattle.jpeg.proofs.search.find.Statement.{statement}
 use Rattle.jpeg.proofs.search.find.Tie as tie

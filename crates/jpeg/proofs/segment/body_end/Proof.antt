@@ -18,8 +18,8 @@ add-loadu16 c = search needs
 loadu16-requires : tie.Need-loadu16-requires
 loadu16-requires c κs = search needs
 
-cast-size : tie.Need-cast-size
-cast-size c = search needs
+cast-length : tie.Need-cast-length
+cast-length c = search needs
 
 returns-2 : tie.Need-returns-2
 returns-2 c = end-small _ _ (omega arith) (c .before .loadu16 .ensures) (omega arith)
@@ -50,7 +50,7 @@ body-end-spec =
     returns
     add-loadu16
     loadu16-requires
-    cast-size
+    cast-length
     returns-2
     sub-if3
     sub-if3-2

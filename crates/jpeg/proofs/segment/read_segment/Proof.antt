@@ -3,7 +3,7 @@ use mathlib.Core.Path.{_≡_}
 use native.Mathlib.Omega.{arith}
 use Rattle.rules.specs.Doc.Outcomes.{fine}
 use Rattle.jpeg.specs.Bodies.{bodyEnd, end-lies}
-use Rattle.jpeg.specs.Segments.{lead-unmarked, lead-cut, lead-ends, lead-bare, lead-refused, lead-block, lead-on}
+use Rattle.jpeg.specs.Leads.{lead-unmarked, lead-cut, lead-ends, lead-bare, lead-refused, lead-block, lead-on}
 use borrow.Author.Needs.{needs}
 use Rattle.jpeg.proofs.segment.read_segment.Statement.{statement}
 use Rattle.jpeg.proofs.segment.read_segment.Tie as tie
@@ -32,8 +32,8 @@ returns-3 c = search lead-ends
 lacks-length-requires : tie.Need-lacks-length-requires
 lacks-length-requires c κs = search needs
 
-add-t18 : tie.Need-add-t18
-add-t18 c = search needs
+add-next : tie.Need-add-next
+add-next c = search needs
 
 returns-4 : tie.Need-returns-4
 returns-4 c = search lead-bare
@@ -68,8 +68,8 @@ part-is-exif-end c = end-lies _ _ (ends (c .before)) .inner
 is-exif-requires : tie.Need-is-exif-requires
 is-exif-requires c κs = search needs
 
-add-t26 : tie.Need-add-t26
-add-t26 c = search needs
+add-block : tie.Need-add-block
+add-block c = search needs
 
 returns-5 : tie.Need-returns-5
 returns-5 c = let to = ends (c .before .before .before .before) in search lead-block
@@ -92,7 +92,7 @@ read-segment-spec =
     ends-search-requires
     returns-3
     lacks-length-requires
-    add-t18
+    add-next
     returns-4
     body-end-requires
     enum-known-e
@@ -102,7 +102,7 @@ read-segment-spec =
     part-is-exif-start
     part-is-exif-end
     is-exif-requires
-    add-t26
+    add-block
     returns-5
     returns-6
     returns-7)

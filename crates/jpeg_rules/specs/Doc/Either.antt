@@ -12,15 +12,15 @@ use Rattle.jpeg_rules.specs.Doc.Block.{isJpeg, jpegBlock}
 use Rattle.jpeg_rules.specs.Doc.Consulted.{startBytes, jpegConsulted}
 
 -- HEIF yes goes to the HEIF reader, else a file that starts FF D8 to the JPEG reader, else it is what the HEIF reader says.
-unfoldable pub photoBlock : List ℕ → Outcome (List ℕ)
-photoBlock img = if isHeif img then block img else if isJpeg img then jpegBlock img else block img
+unfoldable pub eitherBlock : List ℕ → Outcome (List ℕ)
+eitherBlock img = if isHeif img then block img else if isJpeg img then jpegBlock img else block img
 
-abbrev pub photoAnswer : List ℕ → List ℕ → Answer
-photoAnswer img out = answerBy (photoBlock img) img out
+abbrev pub eitherAnswer : List ℕ → List ℕ → Answer
+eitherAnswer img out = answerBy (eitherBlock img) img out
 
 -- What the two questions consult, and then the reader that is asked.
-unfoldable pub photoConsulted : List ℕ → ℕ → List ℕ
-photoConsulted img room =
+unfoldable pub eitherConsulted : List ℕ → ℕ → List ℕ
+eitherConsulted img room =
     boxesBytes heifLevel (length img) (boxes heifLevel img 0)
     ++ (startBytes img
     ++ (if isHeif img then consulted img room else if isJpeg img then jpegConsulted img room else consulted img room))

@@ -19,9 +19,9 @@ use Rattle.rules.specs.Laws.Rows.{both, by-test}
 use Rattle.rules.specs.Laws.Numbered.{Within, went, with-number, row, require-numbered, either, within-larger, WithinStep, at-end, at-cut, at-thing, WithinEnd, in-cut, in-thing, run-numbered}
 use Rattle.rules.specs.Laws.Room.{NeitherNumber, Early}
 use Rattle.rules.specs.Laws.Refusals.{InTable, in-table-early, in-table-most, block-numbered}
-use Rattle.jpeg_rules.specs.Doc.Segments.{fill, endsSearch, lacksLength, markerAt, Segment, body, sizeAt, sizeRead, segmentAt, isExif, sizeTest, said, segmentMet, segmentStep, segments}
-use Rattle.jpeg_rules.specs.Doc.Block.{isJpeg, blockIn, found, jpegBlock}
-use Rattle.jpeg_rules.specs.Doc.Photo.{photoBlock}
+use Rattle.jpeg_rules.specs.Doc.Segments.{prefix, endsSearch, lacksLength, markerAt, Segment, body, lengthAt, lengthRead, segmentAt, isExif, lengthTest, said, segmentMet, segmentStep, segments}
+use Rattle.jpeg_rules.specs.Doc.Block.{isJpeg, blockIn, found, foundIn, jpegBlock}
+use Rattle.jpeg_rules.specs.Doc.Either.{eitherBlock}
 
 abbrev pub InSearchTable : ℕ → Type 0
 InSearchTable n = T (eqb n 1 || (eqb n 2 || (eqb n 32 || eqb n 33)))
@@ -31,28 +31,28 @@ SearchNumbered = Within InSearchTable
 
 -- ---- Segments
 
-size-numbered : (s : List ℕ) (at : ℕ) → SearchNumbered (sizeAt s at)
-unfolding sizeAt
+size-numbered : (s : List ℕ) (at : ℕ) → SearchNumbered (lengthAt s at)
+unfolding lengthAt
 size-numbered s at = row _ _ (require-numbered (leb (at + 3) (length s)) 2 tt) (λ u. went)
 
-read-numbered : (s : List ℕ) (at marker : ℕ) → SearchNumbered (sizeRead s at marker)
-unfolding sizeRead
+read-numbered : (s : List ℕ) (at marker : ℕ) → SearchNumbered (lengthRead s at marker)
+unfolding lengthRead
 read-numbered s at marker = either (endsSearch marker || lacksLength marker) _ _ went (row _ _ (size-numbered s at) (λ size. went))
 
 segment-numbered : (s : List ℕ) (start : ℕ) → SearchNumbered (segmentAt s start)
 unfolding segmentAt
 segment-numbered s start =
-    row _ _ (require-numbered (eqb (byteAt s start) fill) 32 tt) (λ u. row _ _ (require-numbered (ltb (markerAt s start) (length s)) 2 tt)
+    row _ _ (require-numbered (eqb (byteAt s start) prefix) 32 tt) (λ u. row _ _ (require-numbered (ltb (markerAt s start) (length s)) 2 tt)
     (λ v. row _ _ (read-numbered s (markerAt s start) (byteAt s (markerAt s start))) (λ size. went)))
 
-test-numbered : (size : Option ℕ) → SearchNumbered (sizeTest size)
-unfolding sizeTest
+test-numbered : (size : Option ℕ) → SearchNumbered (lengthTest size)
+unfolding lengthTest
 test-numbered none = went
 test-numbered (some size) = require-numbered (leb 2 size) 33 tt
 
 said-numbered : (s : List ℕ) (x : Segment) → SearchNumbered (said s x)
 unfolding said
-said-numbered s x = row _ _ (test-numbered (x .size)) (λ u. row _ _ (require-numbered (leb (body x .to) (length s)) 2 tt) (λ v. went))
+said-numbered s x = row _ _ (test-numbered (x .length)) (λ u. row _ _ (require-numbered (leb (body x .to) (length s)) 2 tt) (λ v. went))
 
 -- ---- The walk
 
@@ -74,7 +74,7 @@ found-numbered img (stoppedAt x) p = either (isExif img x) _ _ went (with-number
 
 -- ---- The block
 
-search-numbered : (img : List ℕ) → SearchNumbered (found img (segments img .end))
+search-numbered : (img : List ℕ) → SearchNumbered (foundIn img)
 unfolding segments
 search-numbered img = found-numbered img (segments img .end) (run-numbered (segmentStep img) (step-numbered img) (length img) 2)
 
@@ -102,15 +102,15 @@ started-numbered : (img : List ℕ) → isJpeg img ≡ true → Within InEitherT
 unfolding jpegBlock
 started-numbered img e = rw e (row _ _ (within-larger (λ n p. inr p) _ (search-numbered img)) (λ p. went))
 
-pub photo-numbered : (img : List ℕ) → Within InEitherTable (photoBlock img)
-unfolding photoBlock
-photo-numbered img = either (isHeif img) _ _ heif (by-test (Within InEitherTable) (isJpeg img) (started-numbered img) (λ e. heif))
+pub either-numbered : (img : List ℕ) → Within InEitherTable (eitherBlock img)
+unfolding eitherBlock
+either-numbered img = either (isHeif img) _ _ heif (by-test (Within InEitherTable) (isJpeg img) (started-numbered img) (λ e. heif))
   where
     heif : Within InEitherTable (block img)
     heif = within-larger (λ n p. inl p) (block img) (block-numbered img)
 
-pub photo-early : (img : List ℕ) → Early (photoBlock img)
-photo-early img = within-larger (λ n p. ⊎-elim (in-table-early n) (search-early n) p) (photoBlock img) (photo-numbered img)
+pub either-early : (img : List ℕ) → Early (eitherBlock img)
+either-early img = within-larger (λ n p. ⊎-elim (in-table-early n) (search-early n) p) (eitherBlock img) (either-numbered img)
 
 -- none is above 33, and none is 31
 table-most : (n : ℕ) → InEitherTable n → n ≤ 33
@@ -131,8 +131,8 @@ table-most n p = ⊎-elim heif search p
 not-31 : (n : ℕ) → InEitherTable n → n ≡ 31 → ⊥
 not-31 n p e = ⊎-elim (λ h. omega (arith, in-table-most n h)) (λ s. rw e at s) p
 
-pub photo-most : (img : List ℕ) → Within (λ n. n ≤ 33) (photoBlock img)
-photo-most img = within-larger table-most (photoBlock img) (photo-numbered img)
+pub either-most : (img : List ℕ) → Within (λ n. n ≤ 33) (eitherBlock img)
+either-most img = within-larger table-most (eitherBlock img) (either-numbered img)
 
-pub photo-not-31 : (img : List ℕ) → Within (λ n. n ≡ 31 → ⊥) (photoBlock img)
-photo-not-31 img = within-larger not-31 (photoBlock img) (photo-numbered img)
+pub either-not-31 : (img : List ℕ) → Within (λ n. n ≡ 31 → ⊥) (eitherBlock img)
+either-not-31 img = within-larger not-31 (eitherBlock img) (either-numbered img)

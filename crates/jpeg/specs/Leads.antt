@@ -12,7 +12,7 @@ use Rattle.rules.specs.Doc.Outcomes.{if_then_else_, Outcome, fine, refused, _>>
 use Rattle.rules.specs.Doc.Bytes.{byteAt, part}
 use Rattle.rules.specs.Doc.Walks.{Then, onward, halt}
 use Rattle.rules.specs.Laws.Rows.{bind-assoc}
-use Rattle.jpeg_rules.specs.Doc.Segments.{fill, markerAt, endsSearch, lacksLength, Segment, bodyAt, body, sizeAt, sizeRead, segmentAt, APP1, isExif, sizeTest, said}
+use Rattle.jpeg_rules.specs.Doc.Segments.{prefix, markerAt, endsSearch, lacksLength, Segment, bodyAt, body, lengthAt, lengthRead, segmentAt, APP1, isExif, lengthTest, said}
 use Rattle.jpeg_rules.specs.Doc.Block.{behindName, blockIn}
 use Rattle.jpeg.specs.Told.{Lead, on, block}
 use Rattle.jpeg.specs.Exif.{exifBody, exif-body}
@@ -45,12 +45,12 @@ exif-lead s x true e = rw e
 exif-lead s x false e = refl
 
 sized-lead : (s : List ℕ) (start at marker size : ℕ) → endsSearch marker ≡ false
-    → leadOf s (record { start = start; at = at; marker = marker; size = some size }) ≡ (sizedEnd s at size >>= bodyLead s marker (at + 3))
-unfolding leadOf said sizeTest behindName body bodyAt sizedEnd bodyLead
+    → leadOf s (record { start = start; at = at; marker = marker; length = some size }) ≡ (sizedEnd s at size >>= bodyLead s marker (at + 3))
+unfolding leadOf said lengthTest behindName body bodyAt sizedEnd bodyLead
 sized-lead s start at marker size e = rw e (go (leb 2 size) (leb (at + 1 + size) (length s)) refl)
   where
     x : Segment
-    x = record { start = start; at = at; marker = marker; size = some size }
+    x = record { start = start; at = at; marker = marker; length = some size }
 
     go : (t₁ t₂ : Bool) → leb (at + 1 + size) (length s) ≡ t₂
         → ((require t₁ 33 >>= λ u. require t₂ 2 >>= λ v. fine (if isExif s x then halt else onward (at + 1 + size))) >>= leadBy s x)
@@ -62,27 +62,27 @@ sized-lead s start at marker size e = rw e (go (leb 2 size) (leb (at + 1 + size)
 -- ---- The segment at a position, by what each test showed
 
 module _ (s : List ℕ) (start : ℕ) where
-  pub lead-unmarked : (byteAt s start ≡ fill → ⊥) → refused 32 ≡ leadAt s start
+  pub lead-unmarked : (byteAt s start ≡ prefix → ⊥) → refused 32 ≡ leadAt s start
   unfolding leadAt segmentAt
-  lead-unmarked ne = rw (ne-eqb (byteAt s start) fill ne)
+  lead-unmarked ne = rw (ne-eqb (byteAt s start) prefix ne)
 
-  module _ (fills : byteAt s start ≡ fill) {at : ℕ} (here : at ≡ markerAt s start) where
+  module _ (fills : byteAt s start ≡ prefix) {at : ℕ} (here : at ≡ markerAt s start) where
     pub lead-cut : length s ≤ at → refused 2 ≡ leadAt s start
     unfolding leadAt segmentAt
-    lead-cut h = rw (eq-eqb (byteAt s start) fill fills, ← here, le-ltb at (length s) h)
+    lead-cut h = rw (eq-eqb (byteAt s start) prefix fills, ← here, le-ltb at (length s) h)
 
     module _ (inside : at < length s) where
       abbrev marker : ℕ
       marker = byteAt s at
 
       abbrev segment : Option ℕ → Segment
-      segment size = record { start = start; at = at; marker = marker; size = size }
+      segment size = record { start = start; at = at; marker = marker; length = size }
 
-      lead-marked : leadAt s start ≡ (sizeRead s at marker >>= λ size. leadOf s (segment size))
+      lead-marked : leadAt s start ≡ (lengthRead s at marker >>= λ size. leadOf s (segment size))
       unfolding leadAt segmentAt
       lead-marked =
-          rw (eq-eqb (byteAt s start) fill fills, ← here, lt-ltb at (length s) inside)
-          (bind-assoc (sizeRead s at marker) (λ size. fine (segment size)) (leadOf s))
+          rw (eq-eqb (byteAt s start) prefix fills, ← here, lt-ltb at (length s) inside)
+          (bind-assoc (lengthRead s at marker) (λ size. fine (segment size)) (leadOf s))
 
       -- where no length is read there is no body, and no name
       unnamed : isExif s (segment none) ≡ false
@@ -93,7 +93,7 @@ module _ (s : List ℕ) (start : ℕ) where
 
       lead-unsized : (endsSearch marker || lacksLength marker) ≡ true
           → leadAt s start ≡ leadBy s (segment none) (if endsSearch marker || false then halt else onward (at + 1))
-      unfolding sizeRead leadOf said sizeTest body bodyAt
+      unfolding lengthRead leadOf said lengthTest body bodyAt
       lead-unsized e = lead-marked ∙ rw (e, le-leb (at + 1) (length s) (omega arith), unnamed)
 
       module _ {ends : Bool} (e : ends ≡ endsSearch marker) where
@@ -108,8 +108,8 @@ module _ (s : List ℕ) (start : ℕ) where
 
           module _ (has : lacks ≡ false) where
             lead-sized : leadAt s start ≡ (bodyEnd s at >>= bodyLead s marker (at + 3))
-            unfolding sizeRead bodyEnd
-            lead-sized = lead-marked ∙ rw (← e, goes, ← l, has) (go (sizeAt s at))
+            unfolding lengthRead bodyEnd
+            lead-sized = lead-marked ∙ rw (← e, goes, ← l, has) (go (lengthAt s at))
               where
                 go : (o : Outcome ℕ)
                     → ((o >>= λ size. fine (some size)) >>= λ size. leadOf s (segment size)) ≡ ((o >>= sizedEnd s at) >>= bodyLead s marker (at + 3))
