@@ -11,7 +11,7 @@ use Rattle.rules.specs.Doc.Bytes.{sizeOf}
 use Rattle.rules.specs.Cases.{every}
 use Rattle.rules.specs.Doc.Headers.{Box, whole, announced, standing, fileBoxAt}
 use Rattle.rules.specs.Laws.Back.{one}
-use Rattle.rules.specs.Laws.Rows.{by-test}
+use Rattle.rules.specs.Laws.Rows.{both, by-test}
 use Rattle.boxes.specs.Told.{number, announces, child, fileBox, fieldOf}
 use Rattle.boxes.specs.declared.refusal.Refusal.{Refusal}
 use Rattle.boxes.specs.declared.refusal.Refusal.the-variants as r
@@ -117,15 +117,7 @@ not-done x e =
 found-holds : (p : Refusal → Bool) (n : ℕ) (xs : List Refusal) → T (every p xs) → T (p r.NotFound) → T (p (numbered n xs))
 unfolding numbered every
 found-holds p n [] e h = h
-found-holds p n (x ∷ xs) e h = by-test (λ y. T (p y)) (eqb (number x) n) (λ t. first (p x) e) (λ t. found-holds p n xs (rest (p x) e) h)
-  where
-    first : (t : Bool) → T (t && every p xs) → T t
-    first true e = tt
-    first false e = e
-
-    rest : (t : Bool) → T (t && every p xs) → T (every p xs)
-    rest true e = e
-    rest false e = absurd e
+found-holds p n (x ∷ xs) e h = by-test (λ y. T (p y)) (eqb (number x) n) (λ t. both (p x) (every p xs) e .0) (λ t. found-holds p n xs (both (p x) (every p xs) e .1) h)
 
 -- No refusal is numbered above 33.
 pub number-limit : (x : Refusal) → number x ≤ 33

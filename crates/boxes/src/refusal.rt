@@ -3,7 +3,7 @@
 ghost use mathlib.Core.Path.{_≡_};
 ghost use Rattle.boxes.specs.Told.{number};
 
-// Why there is no answer, with document 01's numbers, and from 31 on request three's.
+// Why there is no answer.
 pub enum Refusal {
     NotFound = 1,
     ImageEnds = 2,

@@ -31,7 +31,7 @@ cases =
     -- J: 0, block `4d4d002a`; an output of 3 bytes: 28, needed 4
     ∷ gives J block
     ∷ record { image = J; output = take 3 fresh; answer = record { number = 28; length = 4; output = take 3 fresh } }
-    -- the marker cut, whole or behind its FF; the length; the body: 2
+    -- no marker, or only its FF; no length, or half of it; no body, or a part of it: 2
     ∷ refuses (take 2 J) 2
     ∷ refuses (take 3 J) 2
     ∷ refuses (take 4 J) 2
@@ -75,7 +75,7 @@ pub all-cases : T (every right cases)
 unfolding request every right sameAnswer same cases refuses gives fresh J H before block line
 all-cases = tt
 
--- The entry above both: H and J each get their reader, and what is neither gets what the HEIF reader says.
+-- The reader above both: H and J each get their own, and what is neither gets what the HEIF reader says.
 unfoldable pub eitherCases : List Case
 eitherCases =
     gives J block

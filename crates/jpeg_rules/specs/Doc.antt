@@ -6,5 +6,5 @@ pub mod Segments
 pub mod Block
 -- Bytes consulted.
 pub mod Consulted
--- The entry above both formats.
+-- The reader above both formats.
 pub mod Either

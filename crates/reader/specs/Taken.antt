@@ -1,4 +1,4 @@
--- Which reader answers, by what the two questions said: each one's answer is that of the entry, where its turn comes.
+-- Which reader answers, by what the two questions said: each one's answer is that of the reader above both, where its turn comes.
 use mathlib.Core.Path.{_≡_}
 use mathlib.Core.Bool.{Bool, true, false}
 use mathlib.Core.List.{List}

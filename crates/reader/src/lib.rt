@@ -1,4 +1,4 @@
-// The Exif block of a photograph, HEIF or JPEG: one entry for the intake.
+// The Exif block of a photograph, HEIF or JPEG: for callers that have either.
 ghost use mathlib.Core.Path.{_≡_};
 ghost use Rattle.jpeg_rules.specs.Doc.Either.{eitherAnswer};
 ghost use Rattle.output.specs.Told.{told};

@@ -8,7 +8,8 @@ pub mod Fields
 -- a header, and the decision over the size case by case
 pub mod Headers
 pub mod Decision
--- the boxes of a walk that ended well, in a row; walks without a count of steps, and box by box; the last one kept; where the boxes lie
+-- the boxes of a walk that ended well, in a row; walks without a count of steps; what ended one was met; boxes one by one; the last one kept; where
+-- they lie
 pub mod BoxRow
 pub mod Unroll
 pub mod Stops
@@ -30,7 +31,7 @@ pub mod Limit
 pub mod Agreement
 pub mod SameWalks
 pub mod SameBoxes
--- the numbers that can be given, of any table and of document 01's; the one answer for what is told
+-- the numbers that can be given, of any table; what comes before the room; those of document 01; the one answer for what is told
 pub mod Numbered
 pub mod Room
 pub mod Refusals

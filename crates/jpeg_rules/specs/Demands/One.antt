@@ -60,7 +60,7 @@ block-held img {ps} e =
     let y : ps ≡ positions (p .from) (sizeOf p) = cc in
     record { segment = x; ended-search = end; exif = exif; behind = rw (← z) y }
 
--- ---- The entry above both formats
+-- ---- The reader above both formats
 
 pub either-limit : (img : List ℕ) → Bytes img → {ps : List ℕ} → eitherBlock img ≡ fine ps → length ps ≤ 65531
 unfolding eitherBlock

@@ -77,7 +77,7 @@ module _ (a b : List ℕ) (e : length a ≡ length b) where
       let h : Agree a b (q ++ r) = agree-right a b p (q ++ r) g in
       answers-same a b out (agree-right a b q r h) (jpeg-same (agree-left a b p (q ++ r) g) (agree-left a b q r h))
 
-  -- ---- The entry above both formats
+  -- ---- The reader above both formats
 
   heif-same : Agree a b (boxesBytes heifLevel (length a) (boxes heifLevel a 0)) → isHeif a ≡ isHeif b
   unfolding isHeif

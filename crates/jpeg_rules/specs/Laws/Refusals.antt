@@ -1,4 +1,4 @@
--- Every step before the room refuses with a number of request three: 31 for the start, 1, 2, 32 or 33 for the search. Through the entry above both
+-- Every step before the room refuses with a number of request three: 31 for the start, 1, 2, 32 or 33 for the search. Through the reader above both
 -- formats, with one of the search or of HEIF's.
 use mathlib.Core.Path.{_≡_, refl}
 use Prim.Native.Nat.{ℕ, _+_, _≤_}

@@ -1,4 +1,4 @@
--- Each reader's answer is that of the entry, by what the two questions said (specs/Taken).
+-- Each reader's answer is that of the reader above both, by what the two questions said (specs/Taken).
 use borrow.Author.Needs.{needs}
 use Rattle.reader.specs.Taken.{as-heif, as-jpeg, as-neither}
 use Rattle.reader.proofs.get_exif_attr.Statement.{statement}

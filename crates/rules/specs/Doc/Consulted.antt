@@ -19,16 +19,16 @@ use Rattle.rules.specs.Doc.Answers.{handed}
 
 -- ---- Of any walk
 
--- how a walk ended: where nothing whole stands, what `cut` says of that position
+-- of its end: where nothing whole stands, what `gap` says of that position
 unfoldable pub endBytes : {A : Type 0} → (ℕ → List ℕ) → End A → List ℕ
-endBytes cut ended = []
-endBytes cut (cutAt k at) = cut at
-endBytes cut (refusedAt k x) = []
-endBytes cut (stoppedAt x) = []
+endBytes gap ended = []
+endBytes gap (cutAt k at) = gap at
+endBytes gap (refusedAt k x) = []
+endBytes gap (stoppedAt x) = []
 
--- what `thing` says of each thing walked, and how the walk ended
+-- what `thing` says of each thing walked, and that
 unfoldable pub walkBytes : {A : Type 0} → (A → List ℕ) → (ℕ → List ℕ) → Walk A → List ℕ
-walkBytes thing cut w = each thing (w .list) ++ endBytes cut (w .end)
+walkBytes thing gap w = each thing (w .list) ++ endBytes gap (w .end)
 
 -- ---- Of boxes
 

@@ -260,10 +260,6 @@ block-numbered img = go (block img) (subst Numbered (sym (block-lent img)) (byte
 
 -- ---- What that shows
 
--- a number that is not among 1 to 27 is not given
-pub not-given : (n k : ℕ) → Numbered {A = List ℕ} (refused n) → n ≡ k → (InTable k → ⊥) → ⊥
-not-given n k (with-number p) e out = out (rw e at p)
-
 -- none is above 27
 pub in-table-most : (n : ℕ) → InTable n → n ≤ 27
 in-table-most n p = leb→le n 27 (both (leb 1 n) (leb n 27) p .1)

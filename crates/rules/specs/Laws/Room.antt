@@ -1,4 +1,5 @@
--- Whatever comes before the room refuses neither with 0, the number of success, nor with 28, that of the room.
+-- The room is the last test, whether the output is long enough for the block, else 28. What comes before it refuses neither with 0, the number of
+-- success, nor with 28.
 use mathlib.Core.Path.{_≡_, refl}
 use Prim.Native.Nat.{ℕ, _<_}
 use native.Mathlib.Omega.{arith}
