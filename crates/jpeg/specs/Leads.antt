@@ -15,6 +15,7 @@ use Rattle.rules.specs.Laws.Rows.{bind-assoc}
 use Rattle.jpeg_rules.specs.Doc.Segments.{prefix, markerAt, endsSearch, lacksLength, Segment, bodyAt, body, lengthAt, lengthRead, segmentAt, APP1, isExif, lengthTest, said}
 use Rattle.jpeg_rules.specs.Doc.Block.{behindName, blockIn}
 use Rattle.jpeg.specs.Told.{Lead, on, block}
+use Rattle.jpeg.specs.Markers.{marker-later}
 use Rattle.jpeg.specs.Exif.{exifBody, exif-body}
 use Rattle.jpeg.specs.Bodies.{sizedEnd, bodyEnd}
 
@@ -66,7 +67,11 @@ module _ (s : List ℕ) (start : ℕ) where
   unfolding leadAt segmentAt
   lead-unmarked ne = rw (ne-eqb (byteAt s start) prefix ne)
 
-  module _ (fills : byteAt s start ≡ prefix) {at : ℕ} (here : at ≡ markerAt s start) where
+  -- the first FF is there, so the marker byte stands where it does from the next byte on
+  module _ (begins : start < length s) (fills : byteAt s start ≡ prefix) {at : ℕ} (found : at ≡ markerAt s (start + 1)) where
+    here : at ≡ markerAt s start
+    here = found ∙ marker-later s start refl begins fills
+
     pub lead-cut : length s ≤ at → refused 2 ≡ leadAt s start
     unfolding leadAt segmentAt
     lead-cut h = rw (eq-eqb (byteAt s start) prefix fills, ← here, le-ltb at (length s) h)

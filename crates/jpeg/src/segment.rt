@@ -73,7 +73,7 @@ pub(crate) fn read_segment(image: &[u8], start: usize) -> Next
     if image[start] != PREFIX {
         return Next::Refused(Refusal::NoMarker);
     }
-    let at = marker_at(image, start);
+    let at = marker_at(image, start + 1);
     if image.len() <= at {
         return Next::Refused(Refusal::ImageEnds);
     }

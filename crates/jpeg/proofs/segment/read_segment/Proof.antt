@@ -1,4 +1,4 @@
--- Test after test as the definition has them (Segments). The body that is lent lies inside, since its end was given.
+-- Test after test as the definition has them (Leads). The body that is lent lies inside, since its end was given.
 use mathlib.Core.Path.{_≡_}
 use native.Mathlib.Omega.{arith}
 use Rattle.rules.specs.Doc.Outcomes.{fine}
@@ -13,6 +13,9 @@ shared-slice-read-if1 c = search needs
 
 returns : tie.Need-returns
 returns c = search lead-unmarked
+
+add-marker-at : tie.Need-add-marker-at
+add-marker-at c = search needs
 
 marker-at-requires : tie.Need-marker-at-requires
 marker-at-requires c κs = search needs
@@ -86,6 +89,7 @@ read-segment-spec =
     (tie.spec
     shared-slice-read-if1
     returns
+    add-marker-at
     marker-at-requires
     returns-2
     shared-slice-read-marker
