@@ -17,10 +17,10 @@ pub fn groups() -> Vec<Group> {
 pub fn jpeg() -> Vec<Row> {
     let row = |name, image| Row { name, call: Call::Jpeg, image };
     vec![
-        row("J", jpegs::block(4)),
+        row("block of 4 bytes", jpegs::block(4)),
+        row("block of 65,527 bytes", jpegs::block(65_527)),
         row("photograph of 5 MB, Exif first", jpegs::first(5_000_000)),
         row("photograph of 5 MB, no Exif", jpegs::without(5_000_000)),
-        row("block of 65,527 bytes", jpegs::block(65_527)),
         row("Exif behind 5 MB: segments with the longest bodies", jpegs::behind_longest(5_000_000)),
         row("Exif behind 5 MB: segments without a body", jpegs::behind_bodyless(5_000_000)),
         row("Exif behind 5 MB: markers without a length", jpegs::behind_restarts(5_000_000)),
@@ -55,7 +55,7 @@ fn growth() -> Vec<Row> {
 }
 
 /// Where the question whether it is HEIF costs little, and where it costs most.
-fn heif() -> Vec<Row> {
+pub fn heif() -> Vec<Row> {
     let row = |name, image| Row { name, call: Call::Photo, image };
     vec![
         row("H", every::h()),

@@ -6,7 +6,7 @@ use std::ffi::c_void;
 use std::hint::black_box;
 use std::sync::atomic::{AtomicUsize, Ordering::Relaxed};
 
-use bench::rows::{self, Listed, Row};
+use bench::rows::{self, Call, Listed, Row};
 use bench::table::{grouped, Table};
 use bench::{jpeg_rows, sides};
 
@@ -99,9 +99,12 @@ fn line(row: &Row) -> Vec<String> {
     [row.name.to_string()].into_iter().chain(figures.map(grouped)).collect()
 }
 
-fn jpeg_line(row: &Row) -> Vec<String> {
+fn photo_line(row: &Row) -> Vec<String> {
     let mut out = vec![0; sides::ROOM];
-    let rust = memory(&mut || drop(black_box(sides::rust_jpeg(&row.image))));
+    let rust = match row.call {
+        Call::Photo => memory(&mut || drop(black_box(sides::rust_photo(&row.image)))),
+        _ => memory(&mut || drop(black_box(sides::rust_jpeg(&row.image)))),
+    };
     let ours = memory(&mut || _ = black_box(sides::our_photo(&row.image, &mut out)));
     [row.name.to_string()].into_iter().chain([rust.stack, ours.stack, rust.heap, rust.allocations].map(grouped)).collect()
 }
@@ -118,13 +121,13 @@ fn main() {
     let mut table = Table::new("Extraction, and the stack of `is_heif`", head.map(str::to_string).to_vec());
     rows::extraction().iter().for_each(|row| table.add(line(row)));
     let head = ["image", "stack, Rust", "stack, ours", "heap, Rust", "allocations, Rust"];
-    let mut jpeg = Table::new("JPEG by `coinbarrow_photo`", head.map(str::to_string).to_vec());
-    jpeg_rows::jpeg().iter().for_each(|row| jpeg.add(jpeg_line(row)));
+    let mut photo = Table::new("JPEG and HEIF by `coinbarrow_photo`", head.map(str::to_string).to_vec());
+    jpeg_rows::jpeg().iter().chain(&jpeg_rows::heif()).for_each(|row| photo.add(photo_line(row)));
     let mut listing = Table::new("The listing", ["image", "bytes", "stack"].map(str::to_string).to_vec());
     rows::listing().iter().for_each(|row| listing.add(listing_line(row)));
     let own = memory(&mut || sides::empty(black_box(&[]), black_box(&mut []))).stack;
     println!("MEMORY a call, in bytes: how deep the stack was written, {own} for an empty call; what was held of the heap at most.\n");
     table.print();
-    jpeg.print();
+    photo.print();
     listing.print();
 }
