@@ -20,7 +20,7 @@ extern "C" {
 #define COINBARROW_LONGEST 65531
 
 /*
- * The Exif block of `image`, a HEIF image, goes to the front of `out`. The answer has a number and a length, which `coinbarrow_number` and
+ * The Exif block of `image`, a HEIF image, goes to the front of `out`. (For JPEG call `coinbarrow_photo`, below.) The answer has a number and a length, which `coinbarrow_number` and
  * `coinbarrow_length` take out of it.
  *
  *   0  done; the length is the block's, and `out` is unchanged behind it
@@ -49,7 +49,7 @@ uint64_t coinbarrow_exif(const uint8_t *image, size_t image_len, uint8_t *out, s
  *  32  no FF where a marker must be
  *  33  length under 2
  *
- * What is neither gets the answer of `coinbarrow_exif`. So 31, which JPEG's own table has for what doesn't start FF D8, is never given here.
+ * What is neither gets the answer of `coinbarrow_exif`. 29 to 31 are never given.
  */
 uint64_t coinbarrow_photo(const uint8_t *image, size_t image_len, uint8_t *out, size_t out_len);
 

@@ -8,9 +8,9 @@ use crate::rows::{grown, Call, Group, Row, PHONE};
 
 pub fn groups() -> Vec<Group> {
     vec![
-        Group { title: "JPEG by `coinbarrow_photo`", growth: false, rows: jpeg() },
-        Group { title: "JPEG as the image grows tenfold", growth: true, rows: growth() },
-        Group { title: "HEIF by `coinbarrow_photo`", growth: false, rows: heif() },
+        Group { title: "JPEG by `coinbarrow_photo`", other: "plain Rust", growth: false, rows: jpeg() },
+        Group { title: "JPEG as the image grows tenfold", other: "plain Rust", growth: true, rows: growth() },
+        Group { title: "HEIF by `coinbarrow_photo`", other: "Rust", growth: false, rows: heif() },
     ]
 }
 

@@ -33,7 +33,7 @@ fn measure_row(row: &Row, meter: &mut impl Meter) -> Pair {
             || _ = black_box(sides::our_photo(black_box(image), black_box(&mut out))),
         ),
         Call::Jpeg => meter.measure(
-            || drop(black_box(sides::rust_jpeg(black_box(image)))),
+            || drop(black_box(sides::plain_jpeg(black_box(image)))),
             || _ = black_box(sides::our_photo(black_box(image), black_box(&mut out))),
         ),
         Call::Heif => {
@@ -95,9 +95,10 @@ fn line(group: &Group, row: &Row, pair: &Pair) -> Vec<String> {
 pub fn print(measured: &Measured, unit: &str) {
     for (group, pairs) in measured.groups.iter().zip(&measured.pairs) {
         let mut head = ["image", "bytes", "answer"].map(str::to_string).to_vec();
-        head.extend([format!("Rust, {unit}"), format!("ours, {unit}"), "ours / Rust".to_string()]);
+        let other = group.other;
+        head.extend([format!("{other}, {unit}"), format!("ours, {unit}"), format!("ours / {other}")]);
         if group.growth {
-            head.extend([format!("Rust, {unit} a byte"), format!("ours, {unit} a byte")]);
+            head.extend([format!("{other}, {unit} a byte"), format!("ours, {unit} a byte")]);
         }
         let mut table = Table::new(group.title, head);
         for (row, pair) in group.rows.iter().zip(pairs) {

@@ -23,16 +23,18 @@ pub struct Row {
 /// The rows of a table. In one of growth, rows of the same name follow each other, each with ten times more of what the name says.
 pub struct Group {
     pub title: &'static str,
+    /// What ours is held against: the Rust, or a plain reader in Rust.
+    pub other: &'static str,
     pub growth: bool,
     pub rows: Vec<Row>,
 }
 
 pub fn groups() -> Vec<Group> {
     vec![
-        Group { title: "Extraction", growth: false, rows: extraction() },
-        Group { title: "`is_heif`", growth: false, rows: heif() },
-        Group { title: "Extraction as the image grows tenfold", growth: true, rows: extraction_growth() },
-        Group { title: "`is_heif` as the image grows tenfold", growth: true, rows: heif_growth() },
+        Group { title: "Extraction", other: "Rust", growth: false, rows: extraction() },
+        Group { title: "`is_heif`", other: "Rust", growth: false, rows: heif() },
+        Group { title: "Extraction as the image grows tenfold", other: "Rust", growth: true, rows: extraction_growth() },
+        Group { title: "`is_heif` as the image grows tenfold", other: "Rust", growth: true, rows: heif_growth() },
     ]
 }
 

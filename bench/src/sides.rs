@@ -1,4 +1,4 @@
-//! The two sides: the Rust, and ours out of the archive, each behind one call that is not folded into its caller.
+//! The two sides: the Rust (for JPEG a plain reader in Rust), and ours out of the archive, each behind one call that is not folded into its caller.
 
 use std::hint::black_box;
 
@@ -32,7 +32,7 @@ pub fn rust_is_heif(image: &[u8]) -> bool {
     oracle::is_heif(image)
 }
 
-/// Extraction for HEIF that is first asked for, as `coinbarrow_photo` does it.
+/// Extraction from HEIF, behind the question whether it is HEIF, as `coinbarrow_photo` has it.
 #[inline(never)]
 pub fn rust_photo(image: &[u8]) -> Option<Result<Vec<u8>, Error>> {
     oracle::is_heif(image).then(|| oracle::get_exif_attr(image))
@@ -40,7 +40,7 @@ pub fn rust_photo(image: &[u8]) -> Option<Result<Vec<u8>, Error>> {
 
 /// JPEG alone: it is not asked whether the image is HEIF.
 #[inline(never)]
-pub fn rust_jpeg(image: &[u8]) -> Result<Vec<u8>, u8> {
+pub fn plain_jpeg(image: &[u8]) -> Result<Vec<u8>, u8> {
     plain::jpeg_exif(image)
 }
 
@@ -101,7 +101,7 @@ pub fn agreed_photo(name: &str, image: &[u8]) -> usize {
 
 /// The length of the block of a JPEG image, or the number of its refusal, once both sides say the same. Stops where they differ.
 pub fn agreed_jpeg(name: &str, image: &[u8]) -> Result<usize, u8> {
-    let answer = rust_jpeg(image);
+    let answer = plain_jpeg(image);
     match &answer {
         Ok(block) => agree(name, 0, block, |out| our_photo(image, out)),
         Err(number) => agree(name, *number, &[], |out| our_photo(image, out)),

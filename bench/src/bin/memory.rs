@@ -103,7 +103,7 @@ fn photo_line(row: &Row) -> Vec<String> {
     let mut out = vec![0; sides::ROOM];
     let rust = match row.call {
         Call::Photo => memory(&mut || drop(black_box(sides::rust_photo(&row.image)))),
-        _ => memory(&mut || drop(black_box(sides::rust_jpeg(&row.image)))),
+        _ => memory(&mut || drop(black_box(sides::plain_jpeg(&row.image)))),
     };
     let ours = memory(&mut || _ = black_box(sides::our_photo(&row.image, &mut out)));
     [row.name.to_string()].into_iter().chain([rust.stack, ours.stack, rust.heap, rust.allocations].map(grouped)).collect()
@@ -120,14 +120,26 @@ fn main() {
         ["image", "stack, Rust", "stack, ours", "heap, Rust", "allocations, Rust", "stack of `is_heif`, Rust", "stack of `is_heif`, ours"];
     let mut table = Table::new("Extraction, and the stack of `is_heif`", head.map(str::to_string).to_vec());
     rows::extraction().iter().for_each(|row| table.add(line(row)));
-    let head = ["image", "stack, Rust", "stack, ours", "heap, Rust", "allocations, Rust"];
-    let mut photo = Table::new("JPEG and HEIF by `coinbarrow_photo`", head.map(str::to_string).to_vec());
-    jpeg_rows::jpeg().iter().chain(&jpeg_rows::heif()).for_each(|row| photo.add(photo_line(row)));
+    let photo_table = |title, other, rows: Vec<Row>| {
+        let head = [
+            "image".to_string(),
+            format!("stack, {other}"),
+            "stack, ours".to_string(),
+            format!("heap, {other}"),
+            format!("allocations, {other}"),
+        ];
+        let mut table = Table::new(title, head.to_vec());
+        rows.iter().for_each(|row| table.add(photo_line(row)));
+        table
+    };
+    let jpeg = photo_table("JPEG by `coinbarrow_photo`", "plain Rust", jpeg_rows::jpeg());
+    let heif = photo_table("HEIF by `coinbarrow_photo`", "Rust", jpeg_rows::heif());
     let mut listing = Table::new("The listing", ["image", "bytes", "stack"].map(str::to_string).to_vec());
     rows::listing().iter().for_each(|row| listing.add(listing_line(row)));
     let own = memory(&mut || sides::empty(black_box(&[]), black_box(&mut []))).stack;
     println!("MEMORY a call, in bytes: how deep the stack was written, {own} for an empty call; what was held of the heap at most.\n");
     table.print();
-    photo.print();
+    jpeg.print();
+    heif.print();
     listing.print();
 }
