@@ -3,18 +3,22 @@
 use mathlib.Core.Path.{_≡_, sym, ap, _∙_}
 use Prim.Native.Nat.{ℕ, _+_, _*_, _/_, _%_, _^_, _≤_, _<_}
 use native.Mathlib.Omega.{arith}
+use mathlib.Core.Bool.{Bool, true, false}
 use mathlib.Core.List.{List, _++_, append-nil}
 use lib.ListN.{length, take, drop, drop-of-length-le}
 use lib.Seq.{take-all}
 use Rattle.rules.specs.Doc.Answers.{Answer, answer}
+use Rattle.rules.specs.Doc.Heif.{isHeif}
 use Rattle.rules.specs.Doc.Text.{ascii}
 use Rattle.rules.specs.Doc.Listing.{newline, listing, printed}
 use Rattle.rules.specs.Unfold.{document}
 use Rattle.rules.specs.Demands.One.{length-limit, number-limit, always-room}
 use Rattle.rules.specs.Laws.Endian.{Bytes}
 use Rattle.rules.specs.Laws.ListingLength.{listing-length}
+use Rattle.jpeg_rules.specs.Doc.Block.{isJpeg, jpegAnswer}
 use Rattle.jpeg_rules.specs.Doc.Either.{eitherAnswer}
-use Rattle.jpeg_rules.specs.Demands.One.{either-length, either-number, either-never-31, either-room}
+use Rattle.jpeg_rules.specs.Laws.Asked.{as-heif, as-jpeg, as-neither}
+use Rattle.jpeg_rules.specs.Demands.One.{InStartedTable, started-number, either-length, either-number, either-never-31, either-room}
 use Rattle.listing.specs.Whole.{too-long}
 use Rattle.coinbarrow.specs.Halves.{unpacked}
 
@@ -30,6 +34,10 @@ module _ (d : Answer) (r : ℕ) (after : List ℕ) (meets : unpacked r after ≡
   -- It is the answer's number times 2^32, plus the length.
   pub is-sum : r ≡ d .number * 2 ^ 32 + d .length
   is-sum = omega (arith, upper, lower)
+
+-- Two numbers that say one answer are the same, and so are the outputs.
+pub packed-one : (d : Answer) (r s : ℕ) (after after′ : List ℕ) → unpacked r after ≡ d → unpacked s after′ ≡ d → (r ≡ s) × (after ≡ after′)
+packed-one d r s after after′ e f = (is-sum d r after e ∙ sym (is-sum d s after′ f), ap (λ (a : Answer). a .output) (e ∙ sym f))
 
 -- Of HEIF: the upper half is at most 28, the lower at most 65,531; and an output of 65,531 bytes always has room.
 module _ (img out : List ℕ) (r : ℕ) (after : List ℕ) (meets : unpacked r after ≡ answer img out) where
@@ -55,6 +63,20 @@ module _ (img out : List ℕ) (r : ℕ) (after : List ℕ) (meets : unpacked r a
 
   pub photo-enough-room : Bytes img → 65531 ≤ length out → r / 2 ^ 32 ≡ 28 → ⊥
   photo-enough-room b h e = either-room img out b h (omega (arith, upper (eitherAnswer img out) r after meets))
+
+-- By what `coinbarrow_is_heif` says of the image, `heif`.
+module _ (img out : List ℕ) {heif : Bool} (asked : heif ≡ isHeif img) (r : ℕ) (after : List ℕ) (meets : unpacked r after ≡ eitherAnswer img out) where
+  -- Where it says yes, `coinbarrow_photo` does what `coinbarrow_exif` does: `s` and `after′` are what that gives. So it does where the image is neither.
+  module _ (s : ℕ) (after′ : List ℕ) (exif : unpacked s after′ ≡ answer img out) where
+    pub photo-of-heif : heif ≡ true → (r ≡ s) × (after ≡ after′)
+    photo-of-heif h = packed-one (answer img out) r s after after′ (meets ∙ as-heif img out (sym asked ∙ h)) exif
+
+    pub photo-of-neither : heif ≡ false → isJpeg img ≡ false → (r ≡ s) × (after ≡ after′)
+    photo-of-neither h j = packed-one (answer img out) r s after after′ (meets ∙ as-neither img out (sym asked ∙ h) j) exif
+
+  -- Of any other that starts FF D8 the upper half is 0, 28, 1, 2, 32 or 33.
+  pub photo-of-jpeg : heif ≡ false → isJpeg img ≡ true → InStartedTable (r / 2 ^ 32)
+  photo-of-jpeg h j = rw (upper (jpegAnswer img out) r after (meets ∙ as-jpeg img out (sym asked ∙ h) j)) (started-number img out j)
 
 -- ---- The text that `coinbarrow_list` writes
 

@@ -1,20 +1,16 @@
 -- No two outcomes, answer and output together, meet a contract of this crate.
-use mathlib.Core.Path.{_≡_, sym, ap, _∙_}
+use mathlib.Core.Path.{_≡_, sym, _∙_}
 use mathlib.Core.Bool.{Bool}
 use mathlib.Core.List.{List}
 use Prim.Native.Nat.{ℕ}
 use lib.ListN.{length}
-use Rattle.rules.specs.Doc.Answers.{Answer, answer}
+use Rattle.rules.specs.Doc.Answers.{answer}
 use Rattle.rules.specs.Doc.Heif.{isHeif}
 use Rattle.rules.specs.Doc.Listing.{listing, printed}
 use Rattle.jpeg_rules.specs.Doc.Either.{eitherAnswer}
 use Rattle.listing.specs.Unique.{list-one as boxes-one}
 use Rattle.coinbarrow.specs.Halves.{unpacked}
-use Rattle.coinbarrow.specs.Callers.{is-sum}
-
--- a number that says an answer, with the output
-packed-one : (d : Answer) (r s : ℕ) (after after′ : List ℕ) → unpacked r after ≡ d → unpacked s after′ ≡ d → (r ≡ s) × (after ≡ after′)
-packed-one d r s after after′ e f = (is-sum d r after e ∙ sym (is-sum d s after′ f), ap (λ (a : Answer). a .output) (e ∙ sym f))
+use Rattle.coinbarrow.specs.Callers.{packed-one}
 
 -- of `coinbarrow_exif`
 pub exif-one : (img out : List ℕ) (r s : ℕ) (after after′ : List ℕ) → unpacked r after ≡ answer img out → unpacked s after′ ≡ answer img out

@@ -19,7 +19,7 @@ use Rattle.rules.specs.Laws.Gather.{onFine, image-bytes, answer-refused, answer
 use Rattle.jpeg_rules.specs.Doc.Segments.{Segment, body, exifName, APP1, isExif, lengthTest, said}
 use Rattle.jpeg_rules.specs.Doc.Block.{isJpeg, behindName, jpegBlock, jpegAnswer}
 use Rattle.jpeg_rules.specs.Laws.Stopped.{stopped-read}
-use Rattle.jpeg_rules.specs.Laws.Limit.{found-behind}
+use Rattle.jpeg_rules.specs.Laws.Stopped.{found-behind}
 use Rattle.jpeg_rules.specs.Doc.Block.{foundIn}
 
 -- ---- Where the block lies

@@ -5,6 +5,9 @@ pub mod Refusals
 pub mod Marker
 -- agreement of two images
 pub mod SameSegments
--- the segment that ended the walk, and the longest block
+-- the segment that ended the walk and where the block lies in it, and the longest block
 pub mod Stopped
 pub mod Limit
+-- JPEG and HEIF apart, and which reader answers
+pub mod Apart
+pub mod Asked

@@ -1,14 +1,17 @@
 -- Demands 1 and 3 for every call of `get_exif_attr`, from its contract alone: what holds of every format (crates/output, specs/Demands), said of both.
 -- `r` is what a call answers, `after` the output after it.
 use mathlib.Core.Path.{_≡_}
-use Prim.Native.Nat.{ℕ}
+use Prim.Native.Nat.{ℕ, _<_}
+use mathlib.Core.Bool.{true}
 use mathlib.Core.List.{List}
 use lib.ListN.{length}
 use Rattle.rules.specs.Doc.Consulted.{Agree}
 use Rattle.rules.specs.Demands.One.{Longer, Written}
+use Rattle.jpeg_rules.specs.Doc.Block.{isJpeg}
+use Rattle.jpeg_rules.specs.Doc.Consulted.{jpegConsulted}
 use Rattle.jpeg_rules.specs.Doc.Either.{eitherBlock, eitherAnswer, eitherConsulted}
 use Rattle.jpeg_rules.specs.Laws.Refusals.{either-early}
-use Rattle.jpeg_rules.specs.Demands.Three.{either-quiet}
+use Rattle.jpeg_rules.specs.Demands.Three.{either-quiet, either-quiet-jpeg}
 use Rattle.output.specs.Told.{told}
 use Rattle.output.specs.Demands as every
 use Rattle.output.specs.Demands.{Says}
@@ -43,3 +46,10 @@ pub pictures-have-no-say : (a b out : List ℕ) → length a ≡ length b → Ag
     → (r ≡ s) × (after ≡ after′) × (told s after′ ≡ eitherAnswer a out)
 pictures-have-no-say a b out e g r s after after′ p q =
     every.no-say a out (eitherBlock a) (either-early a) (either-quiet a b e out g) r s after after′ p q
+
+-- The same of a JPEG file below 4,292,345,856 bytes, by JPEG's own bytes alone: what the two questions consult beside them has no say there.
+pub jpeg-pictures-have-no-say : (a b out : List ℕ) → length a ≡ length b → isJpeg a ≡ true → length a < 0xffd80000 → Agree a b (jpegConsulted a (length out))
+    → (r s : Extracted) (after after′ : List ℕ) → told r after ≡ eitherAnswer a out → told s after′ ≡ eitherAnswer b out
+    → (r ≡ s) × (after ≡ after′) × (told s after′ ≡ eitherAnswer a out)
+jpeg-pictures-have-no-say a b out e j h g r s after after′ p q =
+    every.no-say a out (eitherBlock a) (either-early a) (either-quiet-jpeg a b e out j h g) r s after after′ p q

@@ -1,6 +1,6 @@
 -- Demand 3: pictures have no say. Two images of one length that agree on the bytes consulted for the first get the same answer.
 use mathlib.Core.Path.{_≡_, refl, ap, ap₂, sym, _∙_}
-use Prim.Native.Nat.{ℕ, _+_, _≤_, min}
+use Prim.Native.Nat.{ℕ, _+_, _≤_, _<_, min}
 use native.Mathlib.Omega.{arith}
 use mathlib.Core.Bool.{Bool, true, false, _&&_}
 use mathlib.Core.List.{List, _++_}
@@ -26,6 +26,8 @@ use Rattle.jpeg_rules.specs.Doc.Consulted.{startBytes, searchBytes, jpeg
 use Rattle.jpeg_rules.specs.Doc.Either.{eitherBlock, eitherAnswer, eitherConsulted}
 use Rattle.jpeg_rules.specs.Laws.SameSegments.{segments-same}
 use Rattle.jpeg_rules.specs.Laws.Stopped.{stopped-read, stopped-exif}
+use Rattle.jpeg_rules.specs.Laws.Apart.{jpeg-no-heif}
+use Rattle.jpeg_rules.specs.Laws.Asked.{as-jpeg}
 
 -- ---- JPEG
 
@@ -103,3 +105,12 @@ module _ (a b : List ℕ) (e : length a ≡ length b) where
       go true j g = quiet a b out e g
       go false true g = jpeg-quiet out g
       go false false g = quiet a b out e g
+
+  -- The two questions consult more than the JPEG reader does: FF D8 and what follows could be the header of a box. Of a JPEG file below
+  -- 4,292,345,856 bytes they add nothing: JPEG's own bytes alone decide.
+  pub either-quiet-jpeg : (out : List ℕ) → isJpeg a ≡ true → length a < 0xffd80000 → Agree a b (jpegConsulted a (length out))
+      → eitherAnswer a out ≡ eitherAnswer b out
+  unfolding jpegConsulted
+  either-quiet-jpeg out j h g =
+      let k : isJpeg b ≡ true = sym (start-same (agree-left a b (startBytes a) _ g)) ∙ j in
+      as-jpeg a out (jpeg-no-heif a j h) j ∙ jpeg-quiet out g ∙ sym (as-jpeg b out (jpeg-no-heif b k (rw (← e) h)) k)

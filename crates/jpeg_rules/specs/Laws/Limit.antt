@@ -1,26 +1,20 @@
 -- No block is longer than 65,527 bytes: two bytes say the length of its segment, which counts them and the name before the block.
-use mathlib.Core.Path.{_≡_, refl, sym, ap}
-use Prim.Native.Nat.{ℕ, zero, suc, _+_, _-_, _≤_, _<_}
+use mathlib.Core.Path.{_≡_, refl, sym}
+use Prim.Native.Nat.{ℕ, _+_, _-_, _≤_, _<_}
 use native.Mathlib.Omega.{arith}
 use mathlib.Core.Bool.{Bool, true, false, _||_}
 use mathlib.Core.Option.{Option, none, some}
 use mathlib.Core.List.{List}
 use lib.ListN.{length}
 use lib.Dec.{leb, ltb, eqb}
-use Rattle.rules.specs.Doc.Outcomes.{if_then_else_, fine, refused, _>>=_, require}
+use Rattle.rules.specs.Doc.Outcomes.{if_then_else_, fine, _>>=_, require}
 use Rattle.rules.specs.Doc.Bytes.{byteAt, numberAt, positions, Span, sizeOf}
-use Rattle.rules.specs.Doc.Walks.{End, ended, cutAt, refusedAt, stoppedAt}
-use Rattle.rules.specs.Laws.Rows.{apart, bind-fine}
-use Rattle.rules.specs.Laws.Numbers.{number-below}
+use Rattle.rules.specs.Laws.Rows.{bind-fine}
+use Rattle.rules.specs.Laws.Numbers.{number-below, positions-length}
 use Rattle.rules.specs.Laws.Endian.{Bytes}
-use Rattle.jpeg_rules.specs.Doc.Segments.{prefix, endsSearch, lacksLength, markerAt, Segment, bodyAt, body, lengthAt, lengthRead, segmentAt, isExif, segments}
-use Rattle.jpeg_rules.specs.Doc.Block.{isJpeg, behindName, blockIn, found, foundIn, jpegBlock}
-use Rattle.jpeg_rules.specs.Laws.Stopped.{stopped-read}
-
-positions-length : (at n : ℕ) → length (positions at n) ≡ n
-unfolding positions
-positions-length at zero = refl
-positions-length at (suc n) = ap suc (positions-length (suc at) n)
+use Rattle.jpeg_rules.specs.Doc.Segments.{prefix, endsSearch, lacksLength, markerAt, Segment, bodyAt, body, lengthAt, lengthRead, segmentAt}
+use Rattle.jpeg_rules.specs.Doc.Block.{isJpeg, behindName, foundIn, jpegBlock}
+use Rattle.jpeg_rules.specs.Laws.Stopped.{stopped-read, found-behind}
 
 module _ (s : List ℕ) where
   -- a length that is read has two bytes
@@ -54,27 +48,9 @@ module _ (s : List ℕ) where
       go none h = omega arith
       go (some size) h = omega (arith, h size refl)
 
-  -- where a block lies, it lies behind the name in the segment that ended the search
-  pub found-behind : {p : Span} → fine p ≡ foundIn s
-      → (x : Segment) × (segments s .end ≡ stoppedAt x) × (isExif s x ≡ true) × (p ≡ behindName x)
-  unfolding found blockIn
-  found-behind {p} e = go (segments s .end) refl e
-    where
-      go : (end : End Segment) → segments s .end ≡ end → fine p ≡ found s end
-          → (x : Segment) × (segments s .end ≡ stoppedAt x) × (isExif s x ≡ true) × (p ≡ behindName x)
-      go ended f g = absurd (apart g)
-      go (cutAt n at) f g = absurd (apart g)
-      go (refusedAt n x) f g = absurd (apart g)
-      go (stoppedAt x) f g = by (isExif s x) refl g
-        where
-          by : (t : Bool) → isExif s x ≡ t → fine p ≡ (if t then fine (behindName x) else refused 1)
-              → (x : Segment) × (segments s .end ≡ stoppedAt x) × (isExif s x ≡ true) × (p ≡ behindName x)
-          by false k g = absurd (apart g)
-          by true k g = (x, f, k, cc)
-
   found-limit : {p : Span} → Bytes s → fine p ≡ foundIn s → sizeOf p ≤ 65527
   found-limit {p} b e =
-      let (x, f, k, z) = found-behind e in
+      let (x, f, k, z) = found-behind s e in
       let (at, h, i) = stopped-read s x f in
       rw z (name-limit x (λ size j. segment-small at x b h j))
 

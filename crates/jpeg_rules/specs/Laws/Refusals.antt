@@ -15,7 +15,7 @@ use Rattle.rules.specs.Doc.Bytes.{byteAt}
 use Rattle.rules.specs.Doc.Walks.{End, ended, cutAt, refusedAt, stoppedAt}
 use Rattle.rules.specs.Doc.Block.{block}
 use Rattle.rules.specs.Doc.Heif.{isHeif}
-use Rattle.rules.specs.Laws.Rows.{both, by-test}
+use Rattle.rules.specs.Laws.Rows.{by-test}
 use Rattle.rules.specs.Laws.Numbered.{Within, went, with-number, row, require-numbered, either, within-larger, WithinStep, at-end, at-cut, at-thing, WithinEnd, in-cut, in-thing, run-numbered}
 use Rattle.rules.specs.Laws.Room.{NeitherNumber, Early}
 use Rattle.rules.specs.Laws.Refusals.{InTable, in-table-early, in-table-most, block-numbered}
@@ -26,7 +26,7 @@ use Rattle.jpeg_rules.specs.Doc.Either.{eitherBlock}
 abbrev pub InSearchTable : ℕ → Type 0
 InSearchTable n = T (eqb n 1 || (eqb n 2 || (eqb n 32 || eqb n 33)))
 
-abbrev SearchNumbered : {A : Type 0} → Outcome A → Type 0
+abbrev pub SearchNumbered : {A : Type 0} → Outcome A → Type 0
 SearchNumbered = Within InSearchTable
 
 -- ---- Segments
@@ -86,6 +86,24 @@ unfolding jpegBlock
 jpeg-numbered img =
     row _ _ (require-numbered (isJpeg img) 31 (inl refl)) (λ u. row _ _ (within-larger (λ n p. inr p) _ (search-numbered img)) (λ p. went))
 
+-- what starts FF D8 is not refused for its start
+pub started-numbered : (img : List ℕ) → isJpeg img ≡ true → SearchNumbered (jpegBlock img)
+unfolding jpegBlock
+started-numbered img e = rw e (row _ _ (search-numbered img) (λ p. went))
+
+-- none of the search is above 33
+search-most : (n : ℕ) → InSearchTable n → n ≤ 33
+search-most n p = go (eqb n 1) (eqb n 2) (eqb n 32) refl refl refl p
+  where
+    go : (a b c : Bool) → eqb n 1 ≡ a → eqb n 2 ≡ b → eqb n 32 ≡ c → T (a || (b || (c || eqb n 33))) → n ≤ 33
+    go true b c e f g p = omega (arith, eqb-true n 1 e)
+    go false true c e f g p = omega (arith, eqb-true n 2 f)
+    go false false true e f g p = omega (arith, eqb-true n 32 g)
+    go false false false e f g p = omega (arith, eqb→eq n 33 p)
+
+pub jpeg-most : (img : List ℕ) → Within (λ n. n ≤ 33) (jpegBlock img)
+jpeg-most img = within-larger (λ n p. ⊎-elim (λ e. omega arith) (search-most n) p) (jpegBlock img) (jpeg-numbered img)
+
 search-early : (n : ℕ) → InSearchTable n → NeitherNumber n
 search-early n p = (λ e. rw e at p, λ e. rw e at p)
 
@@ -97,14 +115,11 @@ jpeg-early img = within-larger (λ n p. ⊎-elim (λ e. (λ z. omega arith, λ z
 abbrev pub InEitherTable : ℕ → Type 0
 InEitherTable n = InTable n ⊎ InSearchTable n
 
--- what starts FF D8 is not refused for its start
-started-numbered : (img : List ℕ) → isJpeg img ≡ true → Within InEitherTable (jpegBlock img)
-unfolding jpegBlock
-started-numbered img e = rw e (row _ _ (within-larger (λ n p. inr p) _ (search-numbered img)) (λ p. went))
-
 pub either-numbered : (img : List ℕ) → Within InEitherTable (eitherBlock img)
 unfolding eitherBlock
-either-numbered img = either (isHeif img) _ _ heif (by-test (Within InEitherTable) (isJpeg img) (started-numbered img) (λ e. heif))
+either-numbered img =
+    either (isHeif img) _ _ heif
+    (by-test (Within InEitherTable) (isJpeg img) (λ e. within-larger (λ n p. inr p) (jpegBlock img) (started-numbered img e)) (λ e. heif))
   where
     heif : Within InEitherTable (block img)
     heif = within-larger (λ n p. inl p) (block img) (block-numbered img)
@@ -114,19 +129,7 @@ either-early img = within-larger (λ n p. ⊎-elim (in-table-early n) (search-ea
 
 -- none is above 33, and none is 31
 table-most : (n : ℕ) → InEitherTable n → n ≤ 33
-table-most n p = ⊎-elim heif search p
-  where
-    heif : InTable n → n ≤ 33
-    heif p = omega (arith, in-table-most n p)
-
-    search : InSearchTable n → n ≤ 33
-    search p = go (eqb n 1) (eqb n 2) (eqb n 32) refl refl refl p
-      where
-        go : (a b c : Bool) → eqb n 1 ≡ a → eqb n 2 ≡ b → eqb n 32 ≡ c → T (a || (b || (c || eqb n 33))) → n ≤ 33
-        go true b c e f g p = omega (arith, eqb-true n 1 e)
-        go false true c e f g p = omega (arith, eqb-true n 2 f)
-        go false false true e f g p = omega (arith, eqb-true n 32 g)
-        go false false false e f g p = omega (arith, eqb→eq n 33 p)
+table-most n p = ⊎-elim (λ h. omega (arith, in-table-most n h)) (search-most n) p
 
 not-31 : (n : ℕ) → InEitherTable n → n ≡ 31 → ⊥
 not-31 n p e = ⊎-elim (λ h. omega (arith, in-table-most n h)) (λ s. rw e at s) p

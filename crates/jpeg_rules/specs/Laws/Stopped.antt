@@ -1,4 +1,4 @@
--- The segment that ended the walk was read somewhere, and it is an Exif segment unless its marker is DA or D9.
+-- The segment that ended the walk was read somewhere, and it is an Exif segment unless its marker is DA or D9. A block lies in it.
 use mathlib.Core.Path.{_≡_, refl, sym, ap, _∙_}
 use Prim.Native.Nat.{ℕ}
 use native.Mathlib.Omega.{arith}
@@ -8,11 +8,12 @@ use lib.ListN.{length}
 use lib.Dec.{leb, eqb}
 use borrow.Author.Tests.{eqb-true}
 use Rattle.rules.specs.Doc.Outcomes.{if_then_else_, Outcome, fine, refused, require}
-use Rattle.rules.specs.Doc.Bytes.{numberAt, sizeOf}
-use Rattle.rules.specs.Doc.Walks.{Then, onward, halt, over, met, stoppedAt}
-use Rattle.rules.specs.Laws.Rows.{bind-fine}
+use Rattle.rules.specs.Doc.Bytes.{numberAt, Span, sizeOf}
+use Rattle.rules.specs.Doc.Walks.{Then, onward, halt, over, met, End, ended, cutAt, refusedAt, stoppedAt}
+use Rattle.rules.specs.Laws.Rows.{apart, bind-fine}
 use Rattle.rules.specs.Laws.Stops.{stopped-met}
 use Rattle.jpeg_rules.specs.Doc.Segments.{endsSearch, Segment, body, segmentAt, exifName, APP1, isExif, lengthTest, said, segmentMet, segmentStep, segments}
+use Rattle.jpeg_rules.specs.Doc.Block.{behindName, blockIn, found, foundIn}
 
 module _ (s : List ℕ) (x : Segment) where
   abbrev Read : Outcome Segment → Outcome Then → Type 0
@@ -63,3 +64,21 @@ module _ (s : List ℕ) (x : Segment) where
       go true q f g e = ends-other f
       go false true f g e = g
       go false false f g e = absurd (let z : _≡_ {A = ℕ} 0 1 = cc in omega arith)
+
+-- where a block lies, it lies behind the name in the segment that ended the search
+pub found-behind : (s : List ℕ) {p : Span} → fine p ≡ foundIn s
+    → (x : Segment) × (segments s .end ≡ stoppedAt x) × (isExif s x ≡ true) × (p ≡ behindName x)
+unfolding found blockIn
+found-behind s {p} e = go (segments s .end) refl e
+  where
+    go : (end : End Segment) → segments s .end ≡ end → fine p ≡ found s end
+        → (x : Segment) × (segments s .end ≡ stoppedAt x) × (isExif s x ≡ true) × (p ≡ behindName x)
+    go ended f g = absurd (apart g)
+    go (cutAt n at) f g = absurd (apart g)
+    go (refusedAt n x) f g = absurd (apart g)
+    go (stoppedAt x) f g = by (isExif s x) refl g
+      where
+        by : (t : Bool) → isExif s x ≡ t → fine p ≡ (if t then fine (behindName x) else refused 1)
+            → (x : Segment) × (segments s .end ≡ stoppedAt x) × (isExif s x ≡ true) × (p ≡ behindName x)
+        by false k g = absurd (apart g)
+        by true k g = (x, f, k, cc)

@@ -99,25 +99,23 @@ module _ (img out : List ℕ) where
   length-within most (refused n) h = omega arith
   length-within most (fine ps) h = h ps refl
 
+  -- The number is 0 or 28, or one that is given before the room.
+  pub number-in : (Table : ℕ → Type 0) → Table 0 → Table 28 → (b : Outcome (List ℕ)) → Within Table b → Table (answerBy b img out .number)
+  unfolding answerBy answerWith
+  number-in Table done room (refused n) (with-number p) = p
+  number-in Table done room (fine ps) p = go (leb (length ps) (length out))
+    where
+      go : (t : Bool) → Table (if t then 0 else 28)
+      go true = done
+      go false = room
+
   -- How large the number can be, if that is known of what comes before the room.
   pub number-within : (most : ℕ) → 28 ≤ most → (b : Outcome (List ℕ)) → Within (λ n. n ≤ most) b → answerBy b img out .number ≤ most
-  unfolding answerBy answerWith
-  number-within most h (refused n) (with-number p) = p
-  number-within most h (fine ps) p = go (leb (length ps) (length out))
-    where
-      go : (t : Bool) → (if t then 0 else 28) ≤ most
-      go true = omega arith
-      go false = h
+  number-within most h b p = number-in (λ n. n ≤ most) (omega arith) h b p
 
   -- A number that neither success nor the room has, and that is not given before the room, is not given.
   pub never : (k : ℕ) → (0 ≡ k → ⊥) → (28 ≡ k → ⊥) → (b : Outcome (List ℕ)) → Within (λ n. n ≡ k → ⊥) b → answerBy b img out .number ≡ k → ⊥
-  unfolding answerBy answerWith
-  never k z r (refused n) (with-number p) e = p e
-  never k z r (fine ps) p e = go (leb (length ps) (length out)) e
-    where
-      go : (t : Bool) → _≡_ {A = ℕ} (if t then 0 else 28) k → ⊥
-      go true e = z e
-      go false e = r e
+  never k z r b p = number-in (λ n. n ≡ k → ⊥) z r b p
 
   -- A buffer so long has room for every block.
   pub enough-room : (most : ℕ) (b : Outcome (List ℕ)) → Early b → ((ps : List ℕ) → b ≡ fine ps → length ps ≤ most)

@@ -23,7 +23,7 @@ neither true q h = (h, cc)
 neither false q h = (refl, h)
 
 -- a change at a position that is not among some others
-agree-set : (s : List ℕ) (k x : ℕ) (ps : List ℕ) → isIn k ps ≡ false → Agree s (set s k x) ps
+pub agree-set : (s : List ℕ) (k x : ℕ) (ps : List ℕ) → isIn k ps ≡ false → Agree s (set s k x) ps
 unfolding isIn
 agree-set s k x [] h = tt
 agree-set s k x (i ∷ ps) h =
@@ -33,15 +33,16 @@ agree-set s k x (i ∷ ps) h =
 pub unconsulted : (img out : List ℕ) (k x : ℕ) → isIn k (consulted img (length out)) ≡ false → answer img out ≡ answer (set img k x) out
 unconsulted img out k x h = quiet img (set img k x) out (sym (length-set img k x)) (agree-set img k x (consulted img (length out)) h)
 
--- ---- H
-
-not-handed : (k room : ℕ) (ps : List ℕ) → isIn k ps ≡ false → isIn k (handed room ps) ≡ false
+-- a position that is not in the block is not handed out with it
+pub not-handed : (k room : ℕ) (ps : List ℕ) → isIn k ps ≡ false → isIn k (handed room ps) ≡ false
 unfolding isIn handed
 not-handed k room ps h = go (leb (length ps) room)
   where
     go : (t : Bool) → isIn k (if t then ps else []) ≡ false
     go true = h
     go false = refl
+
+-- ---- H
 
 H-not-in : (room : ℕ) → isIn 111 (consulted H room) ≡ false
 unfolding document H line isIn

@@ -1,7 +1,8 @@
 -- The decision over a header's size and the test of each level, case by case, by the tests that a reader makes.
-use mathlib.Core.Path.{_≡_, sym}
+use mathlib.Core.Path.{_≡_, refl, sym, _∙_}
 use Prim.Native.Nat.{ℕ, _+_, _-_, _^_, _≤_, _<_}
 use native.Mathlib.Omega.{arith}
+use native.Mathlib.Decide.{decLe}
 use mathlib.Core.Logic.{_⊎_, inl, inr}
 use mathlib.Core.Bool.{false}
 use mathlib.Core.List.{List}
@@ -12,6 +13,7 @@ use Rattle.rules.specs.Doc.Outcomes.{fine, refused, require}
 use Rattle.rules.specs.Doc.Bytes.{numberAt, sizeOf}
 use Rattle.rules.specs.Doc.Headers.{ftyp, meta, headerOf, headerAt, bodySize, Box, boxOf, boxWith}
 use Rattle.rules.specs.Doc.Headers.{whole, skips, announced, standing, boxAt, fileBoxAt}
+use Rattle.rules.specs.Laws.Rows.{apart}
 
 -- ---- The decision over the size, case by case. `left` bytes are left at the position.
 
@@ -55,6 +57,17 @@ module _ (s : List ℕ) (at : ℕ) {left : ℕ} (l : left ≡ length s - at) whe
       pub exact : {kind : ℕ} → kind ≡ numberAt s (at + 4) 4 → 8 ≤ size → (cut : ℕ) → fine (boxOf at kind (at + 8) (at + 8 + (size - 8))) ≡ announced cut s at
       unfolding announced headerAt headerOf bodySize boxWith
       exact k m cut = simp (there 8 h (omega arith), sym e, sym k, ne-eqb size 0 z, ne-eqb size 1 o, le-ltb size 8 m)
+
+-- the box of a size of 8 or more ends so many bytes behind its start
+pub sized-end : (cut : ℕ) (s : List ℕ) (at : ℕ) {b : Box} → fine b ≡ announced cut s at → 8 ≤ numberAt s at 4 → b .body .to ≡ at + numberAt s at 4
+sized-end cut s at {b} e h =
+    elim (decLe 8 (length s - at)) [
+      | yes k ↦
+          let p = exact s at refl refl k (λ z. omega arith) (λ z. omega arith) refl h cut in
+          let z : b ≡ boxOf at (numberAt s (at + 4) 4) (at + 8) (at + 8 + (numberAt s at 4 - 8)) = cc in
+          rw z (omega arith)
+      | no k ↦ absurd (apart (e ∙ sym (cut-short s at refl (omega arith) cut)))
+    ]
 
 -- ---- The test of each level, of a box that was announced
 

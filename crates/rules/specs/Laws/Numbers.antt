@@ -1,7 +1,7 @@
--- How large a number of n bytes can be, when a field is read and when it is refused, and the bytes of a span that fits.
-use mathlib.Core.Path.{_≡_, sym, ap, _∙_}
+-- How large a number of n bytes can be, when a field is read and when it is refused, the bytes of a span that fits, and how many positions there are.
+use mathlib.Core.Path.{_≡_, refl, sym, ap, _∙_}
 use mathlib.Core.List.{List}
-use Prim.Native.Nat.{ℕ, _+_, _^_, _≤_, _<_}
+use Prim.Native.Nat.{ℕ, zero, suc, _+_, _^_, _≤_, _<_}
 use native.Mathlib.Nat.{add-zero}
 use native.Mathlib.Omega.{arith}
 use lib.ListN.{length, take, length-take, length-drop}
@@ -9,7 +9,7 @@ use lib.Seq.{length-take-le}
 use borrow.Author.Tests.{le-leb, lt-leb, ne-eqb}
 use Rattle.rules.specs.Doc.Outcomes.{fine, refused}
 use Rattle.rules.specs.Doc.Endian.{big, numberIn}
-use Rattle.rules.specs.Doc.Bytes.{numberAt, part, Span, sizeOf, bytesIn, field, sized}
+use Rattle.rules.specs.Doc.Bytes.{numberAt, part, positions, Span, sizeOf, bytesIn, field, sized}
 use Rattle.rules.specs.Laws.Endian.{Bytes, number-big, number-in-below, number-in-part}
 
 -- n bytes make a number below 256 to the n
@@ -43,6 +43,12 @@ part-length s p h = simp (length-take, length-drop) (omega arith)
 pub bytes-in : (s : List ℕ) (p : Span) → p .to ≤ length s → bytesIn s p ≡ part s (p .from) (sizeOf p)
 unfolding bytesIn
 bytes-in s p h = rw (le-leb (p .to) (length s) h)
+
+-- n positions are that many
+pub positions-length : (at n : ℕ) → length (positions at n) ≡ n
+unfolding positions
+positions-length at zero = refl
+positions-length at (suc n) = ap suc (positions-length (suc at) n)
 
 -- n bytes are lent from the front where there are as many
 pub first-part : (n : ℕ) (s : List ℕ) → n ≤ length s → n ≡ length (take n s)
