@@ -19,9 +19,11 @@ extern size_t qemu_plugin_tb_n_insns(const struct tb *);
 extern struct insn *qemu_plugin_tb_get_insn(const struct tb *, size_t);
 extern const char *qemu_plugin_insn_symbol(const struct insn *);
 extern uint64_t qemu_plugin_insn_vaddr(const struct insn *);
+extern size_t qemu_plugin_insn_size(const struct insn *);
 
 #define PREFIX "count_mark_"
 #define MARKS 8
+#define PAGE 4096
 
 static FILE *out;
 static uint64_t total, since;
@@ -29,7 +31,30 @@ static const char *last;
 static struct { const char *name; uint64_t entry; } marks[MARKS];
 static unsigned known;
 
-static void block_executed(unsigned cpu, void *instructions) { total += (uintptr_t)instructions; }
+/* Where its first and its last instruction begin. */
+struct block { uint64_t first, last; size_t count; int across; };
+
+static const struct block *before;
+
+/* With an instruction that lies across two pages qemu begins a block. It has counted it in the block before as well, as the last one there, which
+   doesn't execute it. */
+static void block_executed(unsigned cpu, void *data) {
+    const struct block *block = data;
+    total += block->count;
+    if (block->across && before && before->count > 1 && before->last == block->first) total--;
+    before = block;
+}
+
+static struct block *block_of(const struct tb *tb, size_t count) {
+    struct block *block = malloc(sizeof *block);
+    const struct insn *first = qemu_plugin_tb_get_insn(tb, 0);
+    if (!block) { fprintf(stderr, "plugin: no memory\n"); exit(2); }
+    block->first = qemu_plugin_insn_vaddr(first);
+    block->last = qemu_plugin_insn_vaddr(qemu_plugin_tb_get_insn(tb, count - 1));
+    block->count = count;
+    block->across = block->first / PAGE != (block->first + qemu_plugin_insn_size(first) - 1) / PAGE;
+    return block;
+}
 
 static void mark_executed(unsigned cpu, void *name) {
     if (last) fprintf(out, "%s %" PRIu64 "\n", last, total - since);
@@ -48,7 +73,7 @@ static const char *mark_entered(const char *name, uint64_t at) {
 
 static void translated(plugin_id id, struct tb *tb) {
     size_t count = qemu_plugin_tb_n_insns(tb);
-    qemu_plugin_register_vcpu_tb_exec_cb(tb, block_executed, 0, (void *)(uintptr_t)count);
+    qemu_plugin_register_vcpu_tb_exec_cb(tb, block_executed, 0, block_of(tb, count));
     for (size_t k = 0; k < count; k++) {
         struct insn *insn = qemu_plugin_tb_get_insn(tb, k);
         const char *symbol = qemu_plugin_insn_symbol(insn);
