@@ -75,7 +75,7 @@ segmentAt s start = do
 abbrev pub exifName : ℕ
 exifName = 0x457869660000
 
--- the JPEG standard's name for it
+-- E1, by its name in the JPEG standard
 abbrev pub APP1 : ℕ
 APP1 = 0xe1
 
