@@ -13,13 +13,14 @@ use Rattle.rules.specs.Laws.Rows.{bind-fine, required}
 use Rattle.rules.specs.Laws.Lies.{Lies}
 use Rattle.jpeg_rules.specs.Doc.Segments.{lengthAt, lengthTest}
 
--- of a segment whose marker byte stands at a position, with that length; and with the length that stands behind the marker byte
+-- of a segment whose marker byte stands at a position, with that length
 unfoldable pub sizedEnd : List ℕ → ℕ → ℕ → Outcome ℕ
 sizedEnd s at size = do
   _ ← lengthTest (some size)
   _ ← require (leb (at + 1 + size) (length s)) 2
   fine (at + 1 + size)
 
+-- the same, with the length that stands behind the marker byte
 unfoldable pub bodyEnd : List ℕ → ℕ → Outcome ℕ
 bodyEnd s at = lengthAt s at >>= sizedEnd s at
 

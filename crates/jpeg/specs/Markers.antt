@@ -18,7 +18,7 @@ module _ (marker : ℕ) where
   unfolding endsSearch
   ends-other a b = rw (ne-eqb marker 0xda a, ne-eqb marker 0xd9 b)
 
-  -- the two stand side by side
+  -- D9 and DA are neighbours, and the kit makes one range of the arm for both
   pub ends-between : 0xd9 ≤ marker → marker < 0xdb → true ≡ endsSearch marker
   unfolding endsSearch
   ends-between h k = go (eqb marker 0xda) refl
