@@ -23,24 +23,19 @@ use Rattle.jpeg_rules.specs.Doc.Block.{isJpeg, behindName, blockIn, foun
 use Rattle.jpeg_rules.specs.Doc.Either.{eitherAnswer}
 use Rattle.jpeg_rules.specs.Laws.Apart.{jpeg-no-heif}
 use Rattle.jpeg_rules.specs.Laws.Asked.{as-jpeg}
+use Rattle.jpeg_rules.specs.Laws.Marker.{past-step}
 use Rattle.jpeg_rules.specs.Laws.Stopped.{stopped-read, found-behind}
 use Rattle.jpeg_rules.specs.Demands.One.{block-held}
 
 module _ (s t : List ℕ) (long : length s ≤ length t) (same : Range s t 0 (length s)) where
   -- ---- A segment
 
-  past-step : (n m at : ℕ) (b : Bool) → eqb (byteAt s at) prefix ≡ b → byteAt s at ≡ byteAt t at → (b ≡ true → pastFill s n (suc at) ≡ pastFill t m (suc at))
-      → pastFill s (suc n) at ≡ pastFill t (suc m) at
-  unfolding pastFill
-  past-step n m at true e f later = rw (← f, e) (later refl)
-  past-step n m at false e f later = rw (← f, e)
-
   past-front : (n m at : ℕ) → n ≤ m → at + n ≤ length s → pastFill s n at < at + n → pastFill s n at ≡ pastFill t m at
   unfolding pastFill
   past-front zero m at h k l = absurd (omega arith)
   past-front (suc n) zero at h k l = absurd (omega arith)
   past-front (suc n) (suc m) at h k l =
-      past-step n m at (eqb (byteAt s at) prefix) refl (same at (omega arith) (omega arith))
+      past-step s t n m at (eqb (byteAt s at) prefix) refl (same at (omega arith) (omega arith))
       (λ e. past-front n m (suc at) (omega arith) (omega arith) (let z = rw e at l in omega arith))
 
   marker-front : (at : ℕ) → at < length s → markerAt s at < length s → markerAt s at ≡ markerAt t at

@@ -23,17 +23,18 @@ marker-least s at = past-least s (length s - at) at
 -- ---- Agreement
 
 module _ (a b : List ℕ) where
-  past-step : (n at : ℕ) (t : Bool) → eqb (byteAt a at) prefix ≡ t → byteAt a at ≡ byteAt b at → (t ≡ true → pastFill a n (suc at) ≡ pastFill b n (suc at))
-      → pastFill a (suc n) at ≡ pastFill b (suc n) at
+  -- one byte that is the same in both, whatever follows it; the two may look n and m bytes further
+  pub past-step : (n m at : ℕ) (t : Bool) → eqb (byteAt a at) prefix ≡ t → byteAt a at ≡ byteAt b at
+      → (t ≡ true → pastFill a n (suc at) ≡ pastFill b m (suc at)) → pastFill a (suc n) at ≡ pastFill b (suc m) at
   unfolding pastFill
-  past-step n at true e same later = rw (← same, e) (later refl)
-  past-step n at false e same later = rw (← same, e)
+  past-step n m at true e same later = rw (← same, e) (later refl)
+  past-step n m at false e same later = rw (← same, e)
 
   past-same : (n at : ℕ) → ((i : ℕ) → at ≤ i → i ≤ pastFill a n at → i < at + n → byteAt a i ≡ byteAt b i) → pastFill a n at ≡ pastFill b n at
   unfolding pastFill
   past-same zero at h = refl
   past-same (suc n) at h =
-      past-step n at (eqb (byteAt a at) prefix) refl (h at (omega arith) (past-least a (suc n) at) (omega arith))
+      past-step n n at (eqb (byteAt a at) prefix) refl (h at (omega arith) (past-least a (suc n) at) (omega arith))
       (λ e. past-same n (suc at) (λ i j k l. h i (omega arith) (rw e k) (omega arith)))
 
   -- Images that agree on the FF bytes from a position on, and on the byte behind them if there is one, have the marker byte at the same place.
