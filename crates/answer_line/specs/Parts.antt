@@ -9,7 +9,7 @@ use lib.Seq.{take-suc, take-append-seam, length-sets}
 use Rattle.rules.specs.Doc.Text.{ascii, digit, hex, decimal}
 use Rattle.rules.specs.Doc.Listing.{printed}
 use Rattle.rules.specs.Laws.Over.{over-room, over-front}
-use Rattle.rules.specs.Laws.Text.{digits-most}
+use Rattle.rules.specs.Laws.Text.{twenty-digits}
 use Rattle.text.specs.Wrote.{Wrote}
 use Rattle.output.specs.Copied.{Copied}
 use Rattle.answer_line.specs.Line.{hexes, outText}
@@ -45,11 +45,7 @@ out-none (b ∷ s) h = absurd (omega (arith, h))
 
 -- ---- Numbers
 
--- twenty bytes hold every number of 64 bits
-pub twenty-digits : (n : ℕ) → n < 2 ^ 64 → length (decimal n) ≤ 20
-twenty-digits n h = digits-most 19 n (omega (arith, h))
-
--- and its digits are what stands at their front
+-- twenty bytes hold every number of 64 bits, and its digits are what stands at their front
 pub digits-front : (n : ℕ) {k : ℕ} {before after : List ℕ} → n < 2 ^ 64 → length before ≡ 20 → Wrote (decimal n) 0 before k after
     → (k ≤ length after) × (take k after ≡ decimal n)
 digits-front n {k} {before} {after} h room w =

@@ -66,8 +66,8 @@ fn put_numbers(number: usize, length: usize, line: &mut [u8]) -> usize
     put_decimal(length, line, at)
 }
 
-// Only 0 and 28 carry a length.
-fn put_answer(answer: Extracted, line: &mut [u8]) -> usize
+// The number and the length, at the front of the buffer. Only 0 and 28 carry a length.
+pub fn put_answer(answer: Extracted, line: &mut [u8]) -> usize
     ensures { λ r. ⌜ ((out : List ℕ) → Copied (numbersText (told answer out .number) (told answer out .length)) 0 (now (line .entry)) r (now (line .exit))) ⌝ }
 {
     match answer {

@@ -5,9 +5,10 @@ use mathlib.Core.Bool.{Bool}
 use mathlib.Core.List.{List, [], _∷_, _++_}
 use lib.ListN.{take, drop}
 use lib.Dec.{T}
+use Rattle.rules.specs.Doc.Lists.{same}
 use Rattle.rules.specs.Doc.Text.{ascii}
 use Rattle.rules.specs.Doc.Listing.{newline}
-use Rattle.rules.specs.Cases.{line, same, every}
+use Rattle.rules.specs.Cases.{line, every}
 use Rattle.capture_rules.specs.Doc.Capture.{capture}
 use Rattle.capture_rules.specs.Doc.Line.{lineText}
 use Rattle.capture_rules.specs.Unfold.{request}

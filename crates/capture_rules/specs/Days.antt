@@ -6,9 +6,9 @@ use mathlib.Core.List.{List, [], _∷_, _++_}
 use lib.ListN.{take}
 use lib.Dec.{T}
 use Rattle.rules.specs.Doc.Outcomes.{Outcome, fine, refused}
-use Rattle.rules.specs.Doc.Lists.{each}
+use Rattle.rules.specs.Doc.Lists.{each, same}
 use Rattle.rules.specs.Doc.Text.{ascii}
-use Rattle.rules.specs.Cases.{line, same, every}
+use Rattle.rules.specs.Cases.{line, every}
 use Rattle.capture_rules.specs.Doc.Time.{Time, time}
 use Rattle.capture_rules.specs.Doc.Line.{timeText}
 use Rattle.capture_rules.specs.Cases.{changed}

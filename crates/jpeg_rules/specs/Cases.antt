@@ -5,7 +5,8 @@ use mathlib.Core.Bool.{Bool}
 use mathlib.Core.List.{List, [], _∷_, _++_}
 use lib.ListN.{take, drop}
 use lib.Dec.{T}
-use Rattle.rules.specs.Cases.{line, Case, fresh, refuses, gives, H, sameAnswer, same, every}
+use Rattle.rules.specs.Doc.Lists.{same}
+use Rattle.rules.specs.Cases.{line, Case, fresh, refuses, gives, H, sameAnswer, every}
 use Rattle.jpeg_rules.specs.Doc.Block.{jpegAnswer}
 use Rattle.jpeg_rules.specs.Doc.Either.{eitherAnswer}
 use Rattle.jpeg_rules.specs.Unfold.{request}

@@ -1,21 +1,11 @@
 // The lines: one a box, and the last.
-ghost use mathlib.Core.List.{_++_};
 ghost use Prim.Native.Nat.{_+_, _^_, _≤_, _<_};
 ghost use lib.ListN.{length};
-ghost use Rattle.rules.specs.Doc.Text.{decimal};
 ghost use Rattle.rules.specs.Doc.Listing.{lineOf, frontText, lineText, lastText};
 ghost use Rattle.text.specs.Wrote.{Wrote};
 ghost use Rattle.listing.specs.Told.{boxIn};
 use crate::Found;
-
-// A name and a number.
-fn put_named(name: &[u8], n: usize, out: &mut [u8], at: usize) -> usize
-    requires { ⌜ at + length (now name ++ decimal n) < 2 ^ 64 ⌝ }
-    ensures { λ r. ⌜ Wrote (now (name .entry) ++ decimal n) at (now (out .entry)) r (now (out .exit)) ⌝ }
-{
-    let at = text::put(name, out, at);
-    text::put_decimal(n, out, at)
-}
+use text::put_named;
 
 // Where a box is, and its type: the front of its line.
 fn put_front(depth: usize, start: usize, kind: u32, out: &mut [u8], at: usize) -> usize

@@ -5,6 +5,7 @@ use mathlib.Core.Bool.{Bool, true, false, _&&_}
 use mathlib.Core.List.{List, [], _∷_, _++_}
 use lib.ListN.{length, take, drop}
 use lib.Dec.{T, eqb}
+use Rattle.rules.specs.Doc.Lists.{same}
 use Rattle.rules.specs.Doc.Answers.{Answer, answer}
 use Rattle.rules.specs.Doc.Text.{ascii}
 use Rattle.rules.specs.Doc.Listing.{newline, listing}
@@ -85,12 +86,6 @@ cases =
     -- H cut to 115 bytes: 2
     ∷ refuses (take 115 H) 2
     ∷ []
-
-unfoldable pub same : List ℕ → List ℕ → Bool
-same [] [] = true
-same [] (y ∷ ys) = false
-same (x ∷ xs) [] = false
-same (x ∷ xs) (y ∷ ys) = eqb x y && same xs ys
 
 unfoldable pub sameAnswer : Answer → Answer → Bool
 sameAnswer a b = eqb (a .number) (b .number) && eqb (a .length) (b .length) && same (a .output) (b .output)

@@ -6,9 +6,10 @@ use mathlib.Core.List.{List, [], _∷_, _++_}
 use lib.ListN.{drop}
 use lib.Dec.{T}
 use Rattle.rules.specs.Doc.Outcomes.{Outcome, fine, refused}
+use Rattle.rules.specs.Doc.Lists.{same}
 use Rattle.rules.specs.Doc.Bytes.{field}
 use Rattle.rules.specs.Doc.Headers.{ftyp}
-use Rattle.rules.specs.Cases.{line, H, same, every}
+use Rattle.rules.specs.Cases.{line, H, every}
 use Rattle.rules.specs.Unfold.{document}
 use Rattle.splitter.specs.Front.{asSized, sizedFront, fullBoxAt, array4At, fitting, taken, typeOf, bodyOf, typeAt, bodyAt}
 use Rattle.splitter.specs.Behind.{behind, behindSized, readOf, headerRead, endOf, pastBox, behindBox}

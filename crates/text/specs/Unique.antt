@@ -4,7 +4,7 @@ use Prim.Native.Nat.{ℕ}
 use mathlib.Core.List.{List}
 use Rattle.text.specs.Wrote.{Wrote}
 
--- of `put`, `put_decimal` and `put_hex`
+-- of `put`, `put_decimal`, `put_named` and `put_hex`
 pub wrote-one : {bytes : List ℕ} {at : ℕ} {before : List ℕ} {r r′ : ℕ} {after after′ : List ℕ}
     → Wrote bytes at before r after → Wrote bytes at before r′ after′ → (r ≡ r′) × (after ≡ after′)
 wrote-one p q = (p .place ∙ sym (q .place), p .buffer ∙ sym (q .buffer))

@@ -2,7 +2,7 @@
 // end of a buffer that is too short. So of texts one behind the other, from 0 on, the last place is the length of them all.
 ghost use mathlib.Core.Path.{_≡_};
 ghost use Prim.Native.Nat.{_+_, _^_, _<_};
-ghost use mathlib.Core.List.{[], _∷_};
+ghost use mathlib.Core.List.{[], _∷_, _++_};
 ghost use lib.ListN.{length};
 ghost use Rattle.rules.specs.Doc.Text.{digit as Text·digit, hex, decimal};
 ghost use Rattle.text.specs.Wrote.{Wrote};
@@ -49,6 +49,15 @@ pub fn put_decimal(n: usize, out: &mut [u8], at: usize) -> usize
     }
     let next = put_decimal(n / 10, out, at);
     put_byte(digit(n % 10), out, next)
+}
+
+// A name and a number, as `at=20`.
+pub fn put_named(name: &[u8], n: usize, out: &mut [u8], at: usize) -> usize
+    requires { ⌜ at + length (now name ++ decimal n) < 2 ^ 64 ⌝ }
+    ensures { λ r. ⌜ Wrote (now (name .entry) ++ decimal n) at (now (out .entry)) r (now (out .exit)) ⌝ }
+{
+    let at = put(name, out, at);
+    put_decimal(n, out, at)
 }
 
 // The last k digits in base 16.

@@ -6,7 +6,8 @@ use lib.ListN.{length, take}
 use borrow.Author.Needs.{needs}
 use Rattle.rules.specs.Doc.Text.{decimal}
 use Rattle.rules.specs.Laws.Numbers.{first-part}
-use Rattle.answer_line.specs.Parts.{twenty-digits, digits-front}
+use Rattle.rules.specs.Laws.Text.{twenty-digits}
+use Rattle.answer_line.specs.Parts.{digits-front}
 use Rattle.answer_line.proofs.put_decimal.Statement.{statement}
 use Rattle.answer_line.proofs.put_decimal.Tie as tie
 

@@ -6,7 +6,7 @@ use lib.Dec.{leb, eqb}
 use Rattle.rules.specs.Doc.Outcomes.{if_then_else_, Outcome, fine, _>>=_, require}
 use Rattle.rules.specs.Doc.Lists.{any}
 use Rattle.rules.specs.Doc.Bytes.{byteAt}
-use Rattle.rules.specs.Doc.Text.{ascii}
+use Rattle.rules.specs.Doc.Text.{ascii, isDigit}
 
 -- A date and a time of day. Elsewhere "the date", as in `dateIn` and `date=`, is both.
 pub record Time : Type 0 where
@@ -21,10 +21,6 @@ pub record Time : Type 0 where
 
 abbrev pub between : ℕ → ℕ → ℕ → Bool
 between low high n = leb low n && leb n high
-
--- from `0` to `9`
-abbrev pub isDigit : ℕ → Bool
-isDigit c = between 48 57 c
 
 -- A `0` in the pattern stands for any digit, every other byte for itself.
 unfoldable pub pattern : List ℕ

@@ -27,7 +27,7 @@ digit-value d =
     (λ e. rw (le-ltb (87 + d) 58 (omega arith)) (omega arith))
 
 -- one digit more, in any base
-one-more : (base n : ℕ) (cs : List ℕ) (d : ℕ) → valueFrom base n (cs ++ (digit d ∷ [])) ≡ valueFrom base n cs * base + d
+pub one-more : (base n : ℕ) (cs : List ℕ) (d : ℕ) → valueFrom base n (cs ++ (digit d ∷ [])) ≡ valueFrom base n cs * base + d
 unfolding valueFrom
 one-more base n [] d = rw (digit-value d)
 one-more base n (c ∷ cs) d = one-more base (n * base + digitValue c) cs d

@@ -16,7 +16,7 @@ use lib.Seq.{length-take-le}
 use lib.Dec.{T}
 use borrow.Author.Tests.{le-ltb}
 use Rattle.rules.specs.Doc.Outcomes.{fine}
-use Rattle.rules.specs.Doc.Lists.{any}
+use Rattle.rules.specs.Doc.Lists.{any, same}
 use Rattle.rules.specs.Doc.Bytes.{numberAt, Span, sizeOf, bytesIn, field, version}
 use Rattle.rules.specs.Doc.Walks.{outcome}
 use Rattle.rules.specs.Doc.Headers.{meta, Box, boxOf, childAt}
@@ -35,7 +35,7 @@ use Rattle.rules.specs.Laws.Moved.{movedBox, row-moved, drop-take}
 use Rattle.rules.specs.Laws.Listing.{ending, run-done, open-more}
 use Rattle.rules.specs.Laws.ListingRow.{rowListing, then-finished, row-listed, rows-ending}
 use Rattle.rules.specs.Unfold.{document}
-use Rattle.rules.specs.Cases.{same, line as bytes}
+use Rattle.rules.specs.Cases.{line as bytes}
 
 -- ---- The top level
 

@@ -1,7 +1,9 @@
--- "Some", "those that", "the first", "the last", "of each": the words of the rules that speak of a list.
-use mathlib.Core.Bool.{Bool, false, _||_}
+-- "Some", "those that", "the first", "the last", "of each", "the same": the words of the rules that speak of a list.
+use Prim.Native.Nat.{ℕ}
+use mathlib.Core.Bool.{Bool, true, false, _&&_, _||_}
 use mathlib.Core.Option.{Option, none, some}
 use mathlib.Core.List.{List, [], _∷_, _++_}
+use lib.Dec.{eqb}
 use Rattle.rules.specs.Doc.Outcomes.{if_then_else_}
 
 unfoldable pub any : {A : Type 0} → (A → Bool) → List A → Bool
@@ -24,3 +26,10 @@ lastOf (x ∷ y ∷ xs) = lastOf (y ∷ xs)
 unfoldable pub each : {A B : Type 0} → (A → List B) → List A → List B
 each f [] = []
 each f (x ∷ xs) = f x ++ each f xs
+
+-- byte for byte
+unfoldable pub same : List ℕ → List ℕ → Bool
+same [] [] = true
+same [] (y ∷ ys) = false
+same (x ∷ xs) [] = false
+same (x ∷ xs) (y ∷ ys) = eqb x y && same xs ys

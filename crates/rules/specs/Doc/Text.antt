@@ -3,8 +3,9 @@ use Prim.Native.Nat.{ℕ, zero, suc, _+_, _/_, _%_}
 use Prim.Native.Char.{code}
 use Prim.Native.String.{String}
 use Prim.Native.String as string
+use mathlib.Core.Bool.{Bool, _&&_}
 use mathlib.Core.List.{List, [], _∷_, _++_}
-use lib.Dec.{ltb}
+use lib.Dec.{leb, ltb}
 use Rattle.rules.specs.Doc.Outcomes.{if_then_else_}
 
 -- the bytes of letters
@@ -15,6 +16,10 @@ ascii (string._∷_ c s) = code c ∷ ascii s
 -- `0` to `9`, then `a` to `f`
 unfoldable pub digit : ℕ → ℕ
 digit d = if ltb d 10 then 48 + d else 87 + d
+
+-- whether a letter is one of `0` to `9`
+abbrev pub isDigit : ℕ → Bool
+isDigit c = leb 48 c && leb c 57
 
 -- k digits in base 16, the highest first
 unfoldable pub hex : ℕ → ℕ → List ℕ

@@ -1,11 +1,11 @@
 -- How large a number of n bytes can be, when a field is read and when it is refused, the bytes of a span that fits, and how many positions there are.
 use mathlib.Core.Path.{_≡_, refl, sym, ap, _∙_}
 use mathlib.Core.List.{List}
-use Prim.Native.Nat.{ℕ, zero, suc, _+_, _^_, _≤_, _<_}
+use Prim.Native.Nat.{ℕ, zero, suc, _+_, _-_, _^_, _≤_, _<_}
 use native.Mathlib.Nat.{add-zero}
 use native.Mathlib.Omega.{arith}
-use lib.ListN.{length, take, length-take, length-drop}
-use lib.Seq.{length-take-le}
+use lib.ListN.{length, take, drop, length-take, length-drop}
+use lib.Seq.{length-take-le, take-all}
 use borrow.Author.Tests.{le-leb, lt-leb, ne-eqb}
 use Rattle.rules.specs.Doc.Outcomes.{fine, refused}
 use Rattle.rules.specs.Doc.Endian.{big, numberIn}
@@ -53,3 +53,7 @@ positions-length at (suc n) = ap suc (positions-length (suc at) n)
 -- n bytes are lent from the front where there are as many
 pub first-part : (n : ℕ) (s : List ℕ) → n ≤ length s → n ≡ length (take n s)
 first-part n s h = sym (length-take-le n s h)
+
+-- from n bytes on, to the end, are the rest
+pub last-part : (n : ℕ) (s : List ℕ) → take (length s - n) (drop n s) ≡ drop n s
+last-part n s = take-all (length s - n) (drop n s) (omega (arith, length-drop n s))

@@ -76,6 +76,10 @@ five-digits = digits-most 4
 pub ten-digits : (n : ℕ) → n < 10000000000 → length (decimal n) ≤ 10
 ten-digits = digits-most 9
 
+-- every number of 64 bits
+pub twenty-digits : (n : ℕ) → n < 2 ^ 64 → length (decimal n) ≤ 20
+twenty-digits n h = digits-most 19 n (omega (arith, h))
+
 pub hex-longer : (k n : ℕ) → (k ≡ 0 → ⊥) → length (hex k n) ≡ length (hex (k - 1) (n / 16)) + 1
 hex-longer k n h = rw (hex-more k n h, length-append (hex (k - 1) (n / 16)) (digit (n % 16) ∷ []))
 

@@ -1,9 +1,9 @@
 -- A name and a number written one behind the other are one text (`wrote-then`). The place behind both can be told, so that behind the name can.
 use borrow.Author.Needs.{needs}
 use Rattle.rules.specs.Doc.Text.{decimal}
 use Rattle.text.specs.Wrote.{wrote-then, room-first, room-then}
-use Rattle.listing.proofs.line.put_named.Statement.{statement}
-use Rattle.listing.proofs.line.put_named.Tie as tie
+use Rattle.text.proofs.put_named.Statement.{statement}
+use Rattle.text.proofs.put_named.Tie as tie
 
 put-requires : tie.Need-put-requires
 put-requires c κs =

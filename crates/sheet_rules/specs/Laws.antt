@@ -1,0 +1,9 @@
+pub mod Tests
+pub mod Digits
+pub mod Rows
+pub mod Lines
+pub mod Shape
+pub mod Entries
+pub mod Counts
+pub mod Read
+pub mod SheetLength

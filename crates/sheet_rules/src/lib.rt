@@ -1,0 +1,1 @@
+// Request fourteen, the morning sheet, as definitions: they are in specs/, and there is no code here.
