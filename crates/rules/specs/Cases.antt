@@ -1,7 +1,7 @@
 -- "File H and its neighbours": the cases marked P, one list with one claim, and the listing of H. The checker computes them.
 -- No axiom and no premise is used.
 use Prim.Native.Nat.{ℕ, zero, suc, _+_, _/_, _%_, _^_}
-use mathlib.Core.Bool.{Bool, true, false, _&&_}
+use mathlib.Core.Bool.{Bool, true, _&&_}
 use mathlib.Core.List.{List, [], _∷_, _++_}
 use lib.ListN.{length, take, drop}
 use lib.Dec.{T, eqb}

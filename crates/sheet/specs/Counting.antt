@@ -11,9 +11,8 @@ use lib.Dec.{eqb}
 use borrow.Author.Tests.{eqb-true, eqb-false}
 use Rattle.rules.specs.Doc.Outcomes.{Outcome, fine, refused, _>>=_}
 use Rattle.rules.specs.Doc.Lists.{only}
-use Rattle.sheet_rules.specs.Doc.Lines.{lines, Entry, lineText}
+use Rattle.sheet_rules.specs.Doc.Lines.{lines, Entry}
 use Rattle.sheet_rules.specs.Doc.Sheet.{mostLines, entriesFrom, entries, filesWith, sum, larger, largestOf, lengths, Totals, totals}
-use Rattle.sheet_rules.specs.Laws.Shape.{Allowed}
 use Rattle.sheet_rules.specs.Laws.Entries.{OtherLine, entries-none, entries-line, entries-many, entries-other}
 use Rattle.sheet_rules.specs.Laws.Counts.{files-same, files-other, bytes-more, largest-more, AllAllowed, allowed-more, files-most, bytes-most}
 use Rattle.sheet_line.specs.Shape.{entry, LineTo}

@@ -1,11 +1,10 @@
 -- What is written of counts in a buffer of them, and that it is the sheet of what was counted.
-use mathlib.Core.Path.{_≡_, refl, sym, ap, _∙_}
+use mathlib.Core.Path.{_≡_, refl, sym}
 use Prim.Native.Nat.{ℕ, zero, suc, _+_, _^_, _≤_, _<_}
 use native.Mathlib.Omega.{arith}
 use mathlib.Core.Bool.{Bool, true, false}
 use mathlib.Core.List.{List, [], _∷_, _++_, map, append-assoc, append-nil}
 use lib.ListN.{length, getD, length-append}
-use lib.Dec.{ltb}
 use borrow.Author.Tests.{lt-ltb, le-ltb}
 use Rattle.rules.specs.Doc.Outcomes.{if_then_else_, refused}
 use Rattle.rules.specs.Doc.Lists.{only, each}
@@ -13,8 +12,8 @@ use Rattle.rules.specs.Doc.Bytes.{positions}
 use Rattle.rules.specs.Doc.Text.{decimal}
 use Rattle.rules.specs.Laws.Text.{twenty-digits}
 use Rattle.sheet_rules.specs.Doc.Lines.{Entry}
-use Rattle.sheet_rules.specs.Doc.Sheet.{entries, Count, countOf, counts, filesWith, hasFiles, occurred, countText, Totals, totals, totalsText, sheetText, wrongText, sheetOf, sheet}
-use Rattle.sheet.specs.Counting.{Tally, totalled, Sums, Summed}
+use Rattle.sheet_rules.specs.Doc.Sheet.{entries, Count, countOf, counts, filesWith, hasFiles, occurred, countText, totalsText, sheetText, wrongText, sheetOf, sheet}
+use Rattle.sheet.specs.Counting.{Tally, totalled, Summed}
 
 -- a name and a number that fits 64 bits
 pub named-limit : (name : List ℕ) (n : ℕ) → n < 2 ^ 64 → length (name ++ decimal n) ≤ length name + 20

@@ -5,19 +5,18 @@ use native.Mathlib.Omega.{arith}
 use native.Mathlib.Numerals.{add-one}
 use mathlib.Core.Bool.{Bool, true, false, _&&_, true≢false}
 use mathlib.Core.Logic.{_⊎_, inl, inr}
-use mathlib.Core.List.{List, [], _∷_, _++_, append-assoc, append-nil}
-use lib.ListN.{length, take, drop, getD, length-append, length-drop, List·getD-append, drop-of-length-le}
+use mathlib.Core.List.{List, [], _∷_, _++_, append-assoc}
+use lib.ListN.{length, drop, getD, length-append, length-drop, List·getD-append, drop-of-length-le}
 use lib.Seq.{drop-cons, drop-drop, drop-append-seam}
-use lib.Dec.{leb, ltb, eqb}
+use lib.Dec.{ltb, eqb}
 use borrow.Author.Tests.{le-leb, lt-leb, lt-ltb, ltb-true, ltb-false, eq-eqb, ne-eqb, eqb-true}
-use Rattle.rules.specs.Doc.Outcomes.{if_then_else_}
 use Rattle.rules.specs.Doc.Text.{digit, decimalTo, decimal, isDigit}
 use Rattle.rules.specs.Laws.Text.{decimal-one, decimal-more, one-digit, decimal-longer}
 use Rattle.rules.specs.Laws.Rows.{by-test}
-use Rattle.rules.specs.Demands.Digits.{digitValue, valueFrom, decimal-back, one-more}
+use Rattle.rules.specs.Demands.Digits.{digitValue, valueFrom, decimal-back}
 use Rattle.sheet_rules.specs.Doc.Rows.{digitThen, digitsIn}
 use Rattle.sheet_rules.specs.Laws.Tests.{both-true}
-use Rattle.sheet_rules.specs.Laws.Digits.{AllDigits, NoDigit, is-digit, digits-append, decimal-digits, digits-front}
+use Rattle.sheet_rules.specs.Laws.Digits.{NoDigit, is-digit, digits-append, decimal-digits, digits-front}
 use Rattle.sheet_line.specs.declared.Number.{Number}
 use Rattle.sheet_line.specs.declared.Number.the-variants.{Value, Other}
 

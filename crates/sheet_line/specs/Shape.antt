@@ -5,7 +5,7 @@ use native.Mathlib.Omega.{arith}
 use mathlib.Core.Bool.{Bool, true, false, true≢false}
 use mathlib.Core.Logic.{_⊎_, inl, inr}
 use mathlib.Core.List.{List, [], _∷_, _++_, append-assoc, append-cancel-left}
-use lib.ListN.{length, drop, length-append, length-drop}
+use lib.ListN.{length, drop, length-drop}
 use lib.Seq.{drop-drop}
 use lib.Dec.{eqb}
 use borrow.Author.Tests.{eq-eqb, ne-eqb, eqb-true, eqb-false}
@@ -15,7 +15,7 @@ use Rattle.rules.specs.Doc.Listing.{newline}
 use Rattle.sheet_rules.specs.Doc.Rows.{rowText}
 use Rattle.sheet_rules.specs.Doc.Lines.{Entry, lineNames, lineText}
 use Rattle.sheet_rules.specs.Laws.Digits.{NoDigit, split-one}
-use Rattle.sheet_rules.specs.Laws.Rows.{Names, line-names, row-apart}
+use Rattle.sheet_rules.specs.Laws.Rows.{line-names, row-apart}
 use Rattle.sheet_rules.specs.Laws.Shape.{Allowed}
 use Rattle.sheet_rules.specs.Laws.Entries.{OtherLine}
 use Rattle.sheet_line.specs.Numbers.{NamedTo, NotNamed, starts, starts-is, starts-with}

@@ -1,8 +1,8 @@
 -- No two answers meet the contract of `read_line`.
 use mathlib.Core.Path.{_≡_, refl, sym, ap, _∙_}
-use Prim.Native.Nat.{ℕ, _+_, _≤_}
+use Prim.Native.Nat.{ℕ}
 use native.Mathlib.Omega.{arith}
-use mathlib.Core.List.{List, _∷_, _++_, head-eq-of-cons-eq, append-cancel-left}
+use mathlib.Core.List.{List, head-eq-of-cons-eq}
 use mathlib.Core.Option.{some}
 use lib.ListN.{length, drop, length-append, length-drop}
 use Rattle.sheet_rules.specs.Doc.Lines.{lines, Entry, lineText, entryIn}

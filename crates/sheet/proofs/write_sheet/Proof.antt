@@ -1,7 +1,6 @@
 -- What was counted is what the definition counts, and the text of it is written from the front on.
 use mathlib.Core.Path.{sym}
 use borrow.Author.Needs.{needs}
-use Rattle.sheet_rules.specs.Doc.Sheet.{sheet, sheetOf}
 use Rattle.text.specs.Wrote.{from-front}
 use Rattle.sheet.specs.Printed.{sums-sheet, wrong-sheet}
 use Rattle.sheet.proofs.write_sheet.Statement.{statement}

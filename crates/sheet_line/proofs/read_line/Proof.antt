@@ -1,6 +1,5 @@
 -- Each part that was read is a part of the line of an entry, if there is one; so what is missing here is missing in every such line.
 use mathlib.Core.Path.{_≡_, sym, _∙_}
-use mathlib.Core.Bool.{true, false}
 use Prim.Native.Nat.{_+_, _^_, _≤_, _<_}
 use native.Mathlib.Omega.{arith}
 use lib.ListN.{length, drop, length-drop}

@@ -4,7 +4,7 @@ use Prim.Native.Nat.{ℕ, suc, _+_, _≤_}
 use native.Mathlib.Omega.{arith}
 use mathlib.Core.List.{List, [], _∷_, _++_, map, append-nil}
 use lib.ListN.{length, getD}
-use Rattle.rules.specs.Doc.Outcomes.{fine, _>>=_}
+use Rattle.rules.specs.Doc.Outcomes.{fine}
 use Rattle.rules.specs.Doc.Lists.{each}
 use Rattle.sheet_rules.specs.Doc.Rows.{numbersIn}
 use Rattle.sheet_rules.specs.Doc.Lines.{lines, Entry, lineText}

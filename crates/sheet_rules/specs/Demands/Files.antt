@@ -1,18 +1,16 @@
 -- The files of all answers sum to the total.
-use mathlib.Core.Path.{_≡_, refl, sym, ap, _∙_}
+use mathlib.Core.Path.{_≡_, refl, ap, _∙_}
 use Prim.Native.Nat.{ℕ, zero, suc, _+_, _≤_, _<_}
 use native.Mathlib.Omega.{arith}
 use mathlib.Core.Bool.{Bool, true, false}
 use mathlib.Core.List.{List, [], _∷_, map}
-use lib.ListN.{length}
 use lib.Dec.{ltb, eqb}
-use borrow.Author.Tests.{ne-eqb, eq-eqb, eqb-true, eqb-false, ltb-false}
+use borrow.Author.Tests.{ne-eqb, eqb-true, eqb-false, ltb-false}
 use Rattle.rules.specs.Doc.Outcomes.{if_then_else_, fine}
 use Rattle.rules.specs.Doc.Lists.{only}
 use Rattle.rules.specs.Doc.Bytes.{positions}
 use Rattle.sheet_rules.specs.Doc.Lines.{Entry}
 use Rattle.sheet_rules.specs.Doc.Sheet.{entries, filesWith, Count, countOf, counts, hasFiles, occurred, sum, totals}
-use Rattle.sheet_rules.specs.Laws.Shape.{Allowed}
 use Rattle.sheet_rules.specs.Laws.Counts.{files-front, AllAllowed}
 use Rattle.sheet_rules.specs.Laws.Read.{read}
 

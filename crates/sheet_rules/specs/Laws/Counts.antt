@@ -1,17 +1,17 @@
 -- Counts and totals with one entry more, and how large they can be.
-use mathlib.Core.Path.{_≡_, refl, sym, ap, _∙_}
-use Prim.Native.Nat.{ℕ, suc, _+_, _*_, _≤_, _<_}
+use mathlib.Core.Path.{_≡_, refl, sym, _∙_}
+use Prim.Native.Nat.{ℕ, suc, _+_, _*_, _≤_}
 use native.Mathlib.Omega.{arith}
 use mathlib.Core.Bool.{Bool, true, false}
 use mathlib.Core.List.{List, [], _∷_, _++_}
-use lib.ListN.{length, length-append}
+use lib.ListN.{length}
 use lib.Dec.{ltb, eqb}
-use borrow.Author.Tests.{eq-eqb, ne-eqb, ltb-true, ltb-false, lt-ltb, le-ltb}
+use borrow.Author.Tests.{eq-eqb, ne-eqb, ltb-true, ltb-false, le-ltb}
 use Rattle.rules.specs.Doc.Outcomes.{if_then_else_}
 use Rattle.rules.specs.Doc.Lists.{only}
 use Rattle.rules.specs.Laws.Rows.{by-test}
 use Rattle.sheet_rules.specs.Doc.Lines.{Entry}
-use Rattle.sheet_rules.specs.Doc.Sheet.{filesWith, sum, larger, largestOf, Totals, lengths, totals}
+use Rattle.sheet_rules.specs.Doc.Sheet.{filesWith, sum, larger, largestOf, lengths, totals}
 use Rattle.sheet_rules.specs.Laws.Shape.{Allowed}
 
 -- ---- Files

@@ -6,13 +6,12 @@ use mathlib.Core.Logic.{_⊎_, inl, inr}
 use mathlib.Core.Option.{Option, none, some}
 use mathlib.Core.List.{List, [], _∷_, _++_, head-eq-of-cons-eq}
 use lib.ListN.{length, length-append}
-use lib.Dec.{leb}
 use borrow.Author.Tests.{le-leb, lt-leb}
 use Rattle.rules.specs.Doc.Outcomes.{fine, refused, _>>=_, given}
 use Rattle.sheet_rules.specs.Doc.Lines.{lines, Entry, lineText, entryIn}
 use Rattle.sheet_rules.specs.Doc.Sheet.{mostLines, entriesFrom}
 use Rattle.sheet_rules.specs.Laws.Lines.{First, first, flat-line}
-use Rattle.sheet_rules.specs.Laws.Shape.{Allowed, LineOf, line-read, line-is, line-flat, line-some}
+use Rattle.sheet_rules.specs.Laws.Shape.{Allowed, line-read, line-is, line-flat, line-some}
 
 -- ---- Whether the first line is of the shape
 

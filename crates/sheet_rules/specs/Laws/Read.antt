@@ -1,6 +1,6 @@
 -- Input that was read is the lines of what it says, one behind the other, each allowed, and not too many.
 use mathlib.Core.Path.{_≡_, refl, sym, ap, _∙_}
-use Prim.Native.Nat.{ℕ, zero, suc, _+_, _*_, _≤_, _<_}
+use Prim.Native.Nat.{ℕ, zero, suc, _+_, _*_, _≤_}
 use native.Mathlib.Omega.{arith}
 use mathlib.Core.Bool.{Bool, true, false}
 use mathlib.Core.Logic.{_⊎_, inl, inr}
@@ -8,7 +8,7 @@ use mathlib.Core.List.{List, [], _∷_, _++_}
 use lib.ListN.{length, length-append}
 use lib.Dec.{leb}
 use borrow.Author.Tests.{leb-true, leb-false}
-use Rattle.rules.specs.Doc.Outcomes.{fine, refused, _>>=_}
+use Rattle.rules.specs.Doc.Outcomes.{fine}
 use Rattle.rules.specs.Doc.Lists.{each}
 use Rattle.rules.specs.Laws.Rows.{apart, bind-fine}
 use Rattle.sheet_rules.specs.Doc.Lines.{lines, Entry, lineText}

@@ -1,5 +1,5 @@
 -- A line of names and numbers: its numbers can be read again, and it is one line.
-use mathlib.Core.Path.{_≡_, refl, sym, ap, _∙_}
+use mathlib.Core.Path.{_≡_, refl, sym, ap}
 use Prim.Native.Nat.{ℕ}
 use Prim.Native.String.{String}
 use native.Mathlib.Omega.{arith}
@@ -12,7 +12,7 @@ use borrow.Author.Tests.{leb-true, ne-eqb}
 use Rattle.rules.specs.Doc.Lists.{any}
 use Rattle.rules.specs.Doc.Text.{ascii, decimal}
 use Rattle.rules.specs.Doc.Listing.{newline, named}
-use Rattle.rules.specs.Demands.Digits.{valueFrom, decimal-back}
+use Rattle.rules.specs.Demands.Digits.{decimal-back}
 use Rattle.sheet_rules.specs.Doc.Rows.{rowText, digitThen, digitsIn, numbersIn}
 use Rattle.sheet_rules.specs.Doc.Lines.{lineNames}
 use Rattle.sheet_rules.specs.Doc.Sheet.{countNames, totalNames}

@@ -1,21 +1,20 @@
 -- A line of the shape is the line of what it says, and the line of what is allowed is of the shape: so `entryIn` says what the request says. How long
 -- such a line can be.
-use mathlib.Core.Path.{_≡_, refl, sym, ap, _∙_}
-use Prim.Native.Nat.{ℕ, _+_, _≤_}
+use mathlib.Core.Path.{_≡_, refl}
+use Prim.Native.Nat.{ℕ, _≤_}
 use native.Mathlib.Omega.{arith}
 use mathlib.Core.Bool.{Bool, true, false, _&&_, _||_}
 use mathlib.Core.Logic.{_⊎_, inl, inr}
-use mathlib.Core.Option.{Option, none, some}
-use mathlib.Core.List.{List, [], _∷_, _++_}
-use lib.ListN.{length, getD, length-append}
+use mathlib.Core.Option.{none, some}
+use mathlib.Core.List.{List, [], _∷_}
+use lib.ListN.{length, length-append}
 use lib.Dec.{leb, eqb}
 use borrow.Author.Tests.{leb-true, eqb-true, le-leb, eq-eqb}
 use Rattle.rules.specs.Doc.Outcomes.{if_then_else_}
 use Rattle.rules.specs.Doc.Lists.{same}
-use Rattle.rules.specs.Doc.Text.{ascii, decimal}
-use Rattle.rules.specs.Doc.Listing.{newline, named}
+use Rattle.rules.specs.Doc.Listing.{newline}
 use Rattle.rules.specs.Laws.Text.{two-digits, five-digits}
-use Rattle.sheet_rules.specs.Doc.Rows.{rowText, numbersIn}
+use Rattle.sheet_rules.specs.Doc.Rows.{rowText}
 use Rattle.sheet_rules.specs.Doc.Lines.{Entry, lineNames, lineText, allowed, entryOf, entryIn}
 use Rattle.sheet_rules.specs.Laws.Tests.{both-true, same-is, same-self}
 use Rattle.sheet_rules.specs.Laws.Rows.{line-names, numbers-back, Flat, row-flat}

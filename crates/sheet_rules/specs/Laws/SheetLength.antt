@@ -1,10 +1,10 @@
 -- How long a sheet can be: 23 bytes for each of the 100 answers, and 50 for the totals.
-use mathlib.Core.Path.{_≡_, refl, sym}
-use Prim.Native.Nat.{ℕ, zero, suc, _+_, _*_, _^_, _≤_, _<_}
+use mathlib.Core.Path.{_≡_, refl}
+use Prim.Native.Nat.{ℕ, zero, suc, _+_, _*_, _≤_}
 use native.Mathlib.Omega.{arith}
 use mathlib.Core.Bool.{Bool, true, false}
 use mathlib.Core.Option.{Option, none, some}
-use mathlib.Core.List.{List, [], _∷_, _++_, map}
+use mathlib.Core.List.{List, [], _∷_, map}
 use lib.ListN.{length, length-append}
 use lib.Dec.{leb}
 use borrow.Author.Tests.{leb-true}
@@ -15,8 +15,8 @@ use Rattle.rules.specs.Laws.Rows.{apart}
 use Rattle.rules.specs.Laws.Text.{digits-most, two-digits, five-digits}
 use Rattle.sheet_rules.specs.Doc.Rows.{rowText}
 use Rattle.sheet_rules.specs.Doc.Lines.{lines, Entry, entryIn}
-use Rattle.sheet_rules.specs.Doc.Sheet.{mostLines, entriesFrom, entries, filesWith, Count, countOf, counts, hasFiles, occurred, sum, largestOf, lengths}
-use Rattle.sheet_rules.specs.Doc.Sheet.{Totals, totals, countNames, countText, totalNames, totalsText, sheetText, wrongText, sheetOf, sheet}
+use Rattle.sheet_rules.specs.Doc.Sheet.{mostLines, entriesFrom, entries, Count, countOf, counts, hasFiles, occurred, sum, largestOf, lengths}
+use Rattle.sheet_rules.specs.Doc.Sheet.{totals, countNames, countText, totalNames, totalsText, sheetText, wrongText, sheetOf, sheet}
 use Rattle.sheet_rules.specs.Laws.Counts.{AllAllowed, files-most, bytes-most, largest-most}
 use Rattle.sheet_rules.specs.Laws.Read.{read}
 
