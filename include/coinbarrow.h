@@ -1,9 +1,10 @@
 /*
- * Coinbarrow: the Exif block of a HEIF or JPEG image, and a listing of the boxes of a HEIF image. Link libcoinbarrow.a, which is for x86-64 Linux.
+ * Coinbarrow: the Exif block of a HEIF or JPEG image, a listing of the boxes of a HEIF image, and the morning sheet of the lines that the intake
+ * wrote. Link libcoinbarrow.a, which is for x86-64 Linux.
  *
- * Bytes are passed as a pointer and a length. Where a length is 0 the pointer isn't used, and may be null. `out` must not overlap `image`.
- * A call reads only the bytes of `image` and writes only the bytes of `out`. It allocates nothing and keeps nothing for later, so calls may run on
- * several threads at once, if nobody else writes the image or uses the output meanwhile.
+ * Bytes are passed as a pointer and a length. Where a length is 0 the pointer isn't used, and may be null. `out` must not overlap the input.
+ * A call reads only the bytes of its input and writes only the bytes of `out`. It allocates nothing and keeps nothing for later, so calls may run on
+ * several threads at once, if nobody else writes the input or uses the output meanwhile.
  */
 #ifndef COINBARROW_H
 #define COINBARROW_H
@@ -92,6 +93,38 @@ bool coinbarrow_is_heif(const uint8_t *bytes, size_t bytes_len);
  * listing then ends with 3 at the box that is cut.
  */
 size_t coinbarrow_list(const uint8_t *image, size_t image_len, uint8_t *out, size_t out_len);
+
+/* The most lines that are counted. */
+#define COINBARROW_MOST_LINES 100000
+
+/* No sheet is longer than this: an output of so many bytes always gets all of it. */
+#define COINBARROW_LONGEST_SHEET 2350
+
+/*
+ * The morning sheet of `lines`: how many files had which answer. It goes to the front of `out`, as much of it as there is room for. As with
+ * `coinbarrow_list`, it has no zero byte at its end, and the answer is the length of all of it: where that is more than `out_len` it was cut;
+ * otherwise `out` is unchanged behind it. With an `out_len` of 0 the call only tells the length.
+ *
+ * Each line is exactly
+ *
+ *   answer=0 length=4
+ *
+ * and a newline. The answer is at most 99, the length at most 65,535, and 0 unless the answer is 0. Both are decimal, without leading zeros. Of this
+ * line the sheet is
+ *
+ *   answer=0 files=1
+ *   total files=1 bytes=4 largest=4
+ *
+ * There is a line for each answer that occurred, ascending. The last line has the number of all lines, the sum of their lengths, and the largest
+ * length; of no lines it is the only one, and its numbers are 0. If a line has another shape, or there are more than COINBARROW_MOST_LINES, the sheet
+ * is only
+ *
+ *   line=3
+ *
+ * with the number, counted from 1, of the first line of another shape or of line 100,001, whichever comes first. Bytes behind the last newline are a
+ * line of another shape.
+ */
+size_t coinbarrow_sheet(const uint8_t *lines, size_t lines_len, uint8_t *out, size_t out_len);
 
 #ifdef __cplusplus
 }

@@ -15,7 +15,7 @@ pub fn groups() -> Vec<Group> {
 }
 
 pub fn jpeg() -> Vec<Row> {
-    let row = |name, image| Row { name, call: Call::Jpeg, image };
+    let row = |name, input| Row { name, call: Call::Jpeg, input };
     vec![
         row("block of 4 bytes", jpegs::block(4)),
         row("block of 65,527 bytes", jpegs::block(65_527)),
@@ -56,7 +56,7 @@ fn growth() -> Vec<Row> {
 
 /// Where the question whether it is HEIF costs little, and where it costs most.
 pub fn heif() -> Vec<Row> {
-    let row = |name, image| Row { name, call: Call::Photo, image };
+    let row = |name, input| Row { name, call: Call::Photo, input };
     vec![
         row("H", every::h()),
         row("phone, `mdat` of 3 MB before `meta`", PHONE.image()),

@@ -1,9 +1,11 @@
-//! What is measured: the images, the rows that they make, and the two sides.
+//! What is measured: the images and lines, the rows that they make, and the two sides.
 
 pub mod images;
 pub mod jpeg_rows;
 pub mod jpegs;
 pub mod plain;
+pub mod plain_sheet;
 pub mod rows;
+pub mod sheet_rows;
 pub mod sides;
 pub mod table;

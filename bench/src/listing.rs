@@ -7,7 +7,7 @@ use bench::sides;
 use bench::table::{grouped, Table};
 
 use crate::meters::Meter;
-use crate::report::{a_byte, figure};
+use crate::report::{apiece, figure};
 
 pub struct Figure {
     row: Listed,
@@ -35,7 +35,7 @@ pub fn print(figures: &[Figure], unit: &str) {
     for Figure { row, text, number } in figures {
         let bytes = row.image.len();
         let sizes = [row.name.to_string(), grouped(bytes), grouped(*text)];
-        table.add(sizes.into_iter().chain([figure(*number), a_byte(*number, *text), a_byte(*number, bytes)]).collect());
+        table.add(sizes.into_iter().chain([figure(*number), apiece(*number, *text), apiece(*number, bytes)]).collect());
     }
     table.print();
 }

@@ -1,4 +1,4 @@
-//! The tables of both sides, of HEIF and of JPEG, and of the listing. bench/run starts it, with one of:
+//! The tables of both sides, of HEIF, of JPEG and of the sheet, and of the listing. bench/run starts it, with one of:
 //!
 //!     time           measures by the clock, and prints the tables
 //!     marks          makes the calls between marks, for bench/count-insns
@@ -8,17 +8,17 @@ mod listing;
 mod meters;
 mod report;
 
-use bench::{jpeg_rows, rows};
+use bench::{jpeg_rows, rows, sheet_rows};
 use meters::{Clock, Counted, Marks, Meter, BATCHES, CALLS};
 
 struct Figures {
-    groups: [report::Measured; 2],
+    groups: [report::Measured; 3],
     listing: Vec<listing::Figure>,
 }
 
-/// The images of each part are made when its turn comes, so that the Rust, which allocates, finds the heap as it would without those behind it.
+/// What each part is measured on is made when its turn comes, so that the Rust, which allocates, finds the heap as it would without those behind it.
 fn measure(meter: &mut impl Meter) -> Figures {
-    let groups = [rows::groups, jpeg_rows::groups].map(|groups| report::measure(groups(), meter));
+    let groups = [rows::groups, jpeg_rows::groups, sheet_rows::groups].map(|groups| report::measure(groups(), meter));
     Figures { groups, listing: listing::measure(meter) }
 }
 

@@ -11,35 +11,49 @@ use crate::meters::{Meter, Pair};
 /// The answer that both sides give. Stops where they differ.
 fn agreed(row: &Row) -> String {
     match row.call {
-        Call::Exif => grouped(sides::agreed_block(row.name, &row.image)),
-        Call::Photo => grouped(sides::agreed_photo(row.name, &row.image)),
-        Call::Jpeg => sides::agreed_jpeg(row.name, &row.image).map_or_else(|number| format!("refusal {number}"), grouped),
-        Call::Heif => if sides::agreed_heif(row.name, &row.image) { "yes" } else { "no" }.to_string(),
+        Call::Exif => grouped(sides::agreed_block(row.name, &row.input)),
+        Call::Photo => grouped(sides::agreed_photo(row.name, &row.input)),
+        Call::Jpeg => sides::agreed_jpeg(row.name, &row.input).map_or_else(|number| format!("refusal {number}"), grouped),
+        Call::Sheet => sheet_answer(&sides::agreed_sheet(row.name, &row.input)),
+        Call::Heif => if sides::agreed_heif(row.name, &row.input) { "yes" } else { "no" }.to_string(),
         Call::Empty => "-".to_string(),
+    }
+}
+
+/// The length of a sheet, or the only line of one that names a line.
+fn sheet_answer(text: &str) -> String {
+    if text.starts_with("line=") {
+        text.trim_end().to_string()
+    } else {
+        grouped(text.len())
     }
 }
 
 /// The output is made once and not cleared between calls. The Rust allocates its answer and it is freed: both are part of its call.
 fn measure_row(row: &Row, meter: &mut impl Meter) -> Pair {
-    let image = &row.image[..];
+    let input = &row.input[..];
     let mut out = vec![0; sides::ROOM];
     match row.call {
         Call::Exif => meter.measure(
-            || drop(black_box(sides::rust_exif(black_box(image)))),
-            || _ = black_box(sides::our_exif(black_box(image), black_box(&mut out))),
+            || drop(black_box(sides::rust_exif(black_box(input)))),
+            || _ = black_box(sides::our_exif(black_box(input), black_box(&mut out))),
         ),
         Call::Photo => meter.measure(
-            || drop(black_box(sides::rust_photo(black_box(image)))),
-            || _ = black_box(sides::our_photo(black_box(image), black_box(&mut out))),
+            || drop(black_box(sides::rust_photo(black_box(input)))),
+            || _ = black_box(sides::our_photo(black_box(input), black_box(&mut out))),
         ),
         Call::Jpeg => meter.measure(
-            || drop(black_box(sides::plain_jpeg(black_box(image)))),
-            || _ = black_box(sides::our_photo(black_box(image), black_box(&mut out))),
+            || drop(black_box(sides::plain_jpeg(black_box(input)))),
+            || _ = black_box(sides::our_photo(black_box(input), black_box(&mut out))),
+        ),
+        Call::Sheet => meter.measure(
+            || drop(black_box(sides::plain_sheet(black_box(input)))),
+            || _ = black_box(sides::our_sheet(black_box(input), black_box(&mut out))),
         ),
         Call::Heif => {
-            meter.measure(|| _ = black_box(sides::rust_is_heif(black_box(image))), || _ = black_box(sides::our_is_heif(black_box(image))))
+            meter.measure(|| _ = black_box(sides::rust_is_heif(black_box(input))), || _ = black_box(sides::our_is_heif(black_box(input))))
         }
-        Call::Empty => meter.measure(|| sides::empty(black_box(image), &mut []), || sides::empty(black_box(image), &mut [])),
+        Call::Empty => meter.measure(|| sides::empty(black_box(input), &mut []), || sides::empty(black_box(input), &mut [])),
     }
 }
 
@@ -49,7 +63,7 @@ pub struct Measured {
     pairs: Vec<Vec<Pair>>,
 }
 
-/// Both sides have to give the same answer on every image; nothing of these groups is measured before that.
+/// Both sides have to give the same answer on every input; nothing of these groups is measured before that.
 pub fn measure(groups: Vec<Group>, meter: &mut impl Meter) -> Measured {
     for row in groups.iter().flat_map(|group| &group.rows) {
         agreed(row);
@@ -78,27 +92,38 @@ fn ratio(row: &Row, pair: &Pair) -> String {
     }
 }
 
-pub fn a_byte(number: f64, bytes: usize) -> String {
-    format!("{:.4}", number / bytes as f64)
+/// What each of so many costs.
+pub fn apiece(number: f64, count: usize) -> String {
+    format!("{:.4}", number / count as f64)
 }
 
-/// In a group of growth, what a byte of the image costs too.
+/// What a call is made on, what that is made of, and how many of these it has.
+fn parts(row: &Row) -> (&'static str, &'static str, usize) {
+    match row.call {
+        Call::Sheet => ("lines", "line", row.input.iter().filter(|&&byte| byte == b'\n').count()),
+        _ => ("image", "byte", row.input.len()),
+    }
+}
+
+/// In a group of growth, what a byte of the image or a line costs too.
 fn line(group: &Group, row: &Row, pair: &Pair) -> Vec<String> {
-    let bytes = row.image.len();
-    let mut line = vec![row.name.to_string(), grouped(bytes), agreed(row), figure(pair.rust), figure(pair.ours), ratio(row, pair)];
+    let bytes = grouped(row.input.len());
+    let mut line = vec![row.name.to_string(), bytes, agreed(row), figure(pair.rust), figure(pair.ours), ratio(row, pair)];
     if group.growth {
-        line.extend([pair.rust, pair.ours].map(|number| a_byte(number, bytes)));
+        let (_, _, count) = parts(row);
+        line.extend([pair.rust, pair.ours].map(|number| apiece(number, count)));
     }
     line
 }
 
 pub fn print(measured: &Measured, unit: &str) {
     for (group, pairs) in measured.groups.iter().zip(&measured.pairs) {
-        let mut head = ["image", "bytes", "answer"].map(str::to_string).to_vec();
+        let (input, part, _) = parts(&group.rows[0]);
+        let mut head = [input, "bytes", "answer"].map(str::to_string).to_vec();
         let other = group.other;
         head.extend([format!("{other}, {unit}"), format!("ours, {unit}"), format!("ours / {other}")]);
         if group.growth {
-            head.extend([format!("{other}, {unit} a byte"), format!("ours, {unit} a byte")]);
+            head.extend([format!("{other}, {unit} a {part}"), format!("ours, {unit} a {part}")]);
         }
         let mut table = Table::new(group.title, head);
         for (row, pair) in group.rows.iter().zip(pairs) {

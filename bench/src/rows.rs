@@ -1,4 +1,5 @@
-//! What is measured: which call, on which image; jpeg_rows.rs has those of `coinbarrow_photo`. KB and MB are 1,000 and 1,000,000 bytes.
+//! What is measured: which call, on which image; jpeg_rows.rs has those of `coinbarrow_photo`, sheet_rows.rs those of `coinbarrow_sheet`. KB and MB
+//! are 1,000 and 1,000,000 bytes.
 
 use oracle::every;
 
@@ -11,19 +12,22 @@ pub enum Call {
     /// `coinbarrow_photo` on a HEIF image, and on a JPEG image.
     Photo,
     Jpeg,
+    /// `coinbarrow_sheet`, on lines.
+    Sheet,
     Empty,
 }
 
 pub struct Row {
     pub name: &'static str,
     pub call: Call,
-    pub image: Vec<u8>,
+    /// The image, or the lines.
+    pub input: Vec<u8>,
 }
 
 /// The rows of a table. In one of growth, rows of the same name follow each other, each with ten times more of what the name says.
 pub struct Group {
     pub title: &'static str,
-    /// What ours is held against: the Rust, or a plain reader in Rust.
+    /// What ours is held against: the Rust, or plain code in Rust.
     pub other: &'static str,
     pub growth: bool,
     pub rows: Vec<Row>,
@@ -45,7 +49,7 @@ pub(crate) const PHONE: Phone = Phone { exif: 2_000, mdat: 3_000_000, mdat_first
 const LONGEST: usize = 65_535;
 
 pub fn extraction() -> Vec<Row> {
-    let row = |name, image| Row { name, call: Call::Exif, image };
+    let row = |name, input| Row { name, call: Call::Exif, input };
     vec![
         row("H", every::h()),
         row("phone, `mdat` of 3 MB before `meta`", PHONE.image()),
@@ -72,9 +76,9 @@ pub fn extraction() -> Vec<Row> {
 
 /// The same images, and one where there is more than one box to walk.
 fn heif() -> Vec<Row> {
-    let mut rows = vec![Row { name: "(an empty call)", call: Call::Empty, image: Vec::new() }];
+    let mut rows = vec![Row { name: "(an empty call)", call: Call::Empty, input: Vec::new() }];
     rows.extend(extraction().into_iter().map(|row| Row { call: Call::Heif, ..row }));
-    rows.push(Row { name: "`ftyp` after 10,000 small top-level boxes", call: Call::Heif, image: images::ftyp_last(10_000) });
+    rows.push(Row { name: "`ftyp` after 10,000 small top-level boxes", call: Call::Heif, input: images::ftyp_last(10_000) });
     rows
 }
 
@@ -109,8 +113,8 @@ const ITEMS: [usize; 3] = [655, 6_553, 65_530];
 const EXTENTS: [usize; 3] = [100, 1_000, 10_000];
 const MDATS: [usize; 4] = [3_000, 30_000, 300_000, 3_000_000];
 
-pub(crate) fn grown(name: &'static str, call: Call, sizes: &[usize], image: impl Fn(usize) -> Vec<u8>) -> Vec<Row> {
-    sizes.iter().map(|&size| Row { name, call, image: image(size) }).collect()
+pub(crate) fn grown(name: &'static str, call: Call, sizes: &[usize], input: impl Fn(usize) -> Vec<u8>) -> Vec<Row> {
+    sizes.iter().map(|&size| Row { name, call, input: input(size) }).collect()
 }
 
 fn extraction_growth() -> Vec<Row> {

@@ -1,19 +1,21 @@
-//! The two sides: the Rust (for JPEG a plain reader in Rust), and ours out of the archive, each behind one call that is not folded into its caller.
+//! The two sides: the Rust (for JPEG and the sheet plain code in Rust), and ours out of the archive, each behind one call that is not folded into its
+//! caller.
 
 use std::hint::black_box;
 
 use oracle::Error;
 
-use crate::plain;
+use crate::{plain, plain_sheet};
 
 extern "C" {
     fn coinbarrow_exif(image: *const u8, image_len: usize, out: *mut u8, out_len: usize) -> u64;
     fn coinbarrow_photo(image: *const u8, image_len: usize, out: *mut u8, out_len: usize) -> u64;
     fn coinbarrow_is_heif(bytes: *const u8, len: usize) -> bool;
     fn coinbarrow_list(image: *const u8, image_len: usize, out: *mut u8, out_len: usize) -> usize;
+    fn coinbarrow_sheet(lines: *const u8, lines_len: usize, out: *mut u8, out_len: usize) -> usize;
 }
 
-/// Room for every block.
+/// Room for every block, and for every sheet.
 pub const ROOM: usize = 65_536;
 
 /// Room for every text of the listing.
@@ -44,6 +46,11 @@ pub fn plain_jpeg(image: &[u8]) -> Result<Vec<u8>, u8> {
     plain::jpeg_exif(image)
 }
 
+#[inline(never)]
+pub fn plain_sheet(lines: &[u8]) -> String {
+    plain_sheet::sheet(lines)
+}
+
 /// The number times 2^32, plus the length.
 #[inline(always)]
 pub fn our_exif(image: &[u8], out: &mut [u8]) -> u64 {
@@ -70,18 +77,25 @@ pub fn our_list(image: &[u8], out: &mut [u8]) -> usize {
     unsafe { coinbarrow_list(image.as_ptr(), image.len(), out.as_mut_ptr(), out.len()) }
 }
 
+/// The length of the whole sheet.
+#[inline(always)]
+pub fn our_sheet(lines: &[u8], out: &mut [u8]) -> usize {
+    // SAFETY: both are slices, and ours keeps neither.
+    unsafe { coinbarrow_sheet(lines.as_ptr(), lines.len(), out.as_mut_ptr(), out.len()) }
+}
+
 /// A call that does nothing: what calling adds to every figure.
 #[inline(never)]
 pub fn empty(_image: &[u8], _out: &mut [u8]) {
     black_box(());
 }
 
-/// Stops where ours has not given this number and this block, or has written anything else.
+/// Stops where ours has not given this number and this block, or has written anything else. A text has the number 0: its length is the answer.
 fn agree(name: &str, number: u8, block: &[u8], ours: impl FnOnce(&mut [u8]) -> u64) {
     let mut out = vec![BEFORE; ROOM];
     assert_eq!(ours(&mut out), u64::from(number) << 32 | block.len() as u64, "{name}: ours has another answer");
-    assert!(out[..block.len()] == *block, "{name}: ours has another block");
-    assert!(out[block.len()..].iter().all(|&byte| byte == BEFORE), "{name}: ours wrote behind the block");
+    assert!(out[..block.len()] == *block, "{name}: ours has another output");
+    assert!(out[block.len()..].iter().all(|&byte| byte == BEFORE), "{name}: ours wrote behind it");
 }
 
 /// The length of the block, once both sides have given the same one and ours has written nothing else. Stops where they differ.
@@ -107,6 +121,13 @@ pub fn agreed_jpeg(name: &str, image: &[u8]) -> Result<usize, u8> {
         Err(number) => agree(name, *number, &[], |out| our_photo(image, out)),
     }
     answer.map(|block| block.len())
+}
+
+/// The sheet, once both sides have given the same one and ours has written nothing else. Stops where they differ.
+pub fn agreed_sheet(name: &str, lines: &[u8]) -> String {
+    let text = plain_sheet(lines);
+    agree(name, 0, text.as_bytes(), |out| our_sheet(lines, out) as u64);
+    text
 }
 
 /// Whether it is a HEIF image, once both sides say so. Stops where they differ.

@@ -1,5 +1,5 @@
-/* Calls Coinbarrow on document 01's file H, on a small JPEG file J and on images near them: a line a call, and the listings. What it must print is in
- * the file `stdout` beside it. */
+/* Calls Coinbarrow on document 01's file H, on a small JPEG file J and on images near them, and on lines of the intake: a line a call, and the
+ * listings and sheets. What it must print is in the file `stdout` beside it. */
 #include <stdio.h>
 
 #include "coinbarrow.h"
@@ -105,22 +105,45 @@ static void photo_longest(size_t room) {
     photo("J with a block of 65527 bytes", image, sizeof image, room);
 }
 
-/* The listing, in the first `room` bytes of a buffer that holds a5 before the call, which no text has. As above, all its bytes are looked at. */
-static void list(const char *name, const uint8_t *image, size_t image_len, size_t room) {
+typedef size_t text_function(const uint8_t *, size_t, uint8_t *, size_t);
+
+/* The text, in the first `room` bytes of a buffer that holds a5 before the call, which no text has. As above, all its bytes are looked at. */
+static void show_text(text_function *asked, const char *name, const char *made, const uint8_t *input, size_t input_len, size_t room) {
     static uint8_t buffer[COINBARROW_LONGEST_TEXT + SHOWN];
     size_t i, length, changed = 0;
     for (i = 0; i < sizeof buffer; i++) buffer[i] = 0xa5;
-    length = coinbarrow_list(image, image_len, room == 0 ? NULL : buffer, room);
+    length = asked(input, input_len, room == 0 ? NULL : buffer, room);
     for (i = 0; i < sizeof buffer; i++) changed += buffer[i] != 0xa5;
-    printf("%s, listed in %zu: length=%zu changed=%zu\n", name, room, length, changed);
+    printf("%s, %s in %zu: length=%zu changed=%zu\n", name, made, room, length, changed);
     printf("%.*s", (int)(length < room ? length : room), (const char *)buffer);
     if (length > room) printf(" (cut)\n");
+}
+
+static void list(const char *name, const uint8_t *image, size_t image_len, size_t room) {
+    show_text(coinbarrow_list, name, "listed", image, image_len, room);
 }
 
 /* Zeros: one box, of type 0, that runs to the end. */
 static void list_zeros(const char *name, size_t length) {
     static uint8_t zeros[COINBARROW_LONGEST_LISTED + 1];
     list(name, zeros, length, COINBARROW_LONGEST_TEXT);
+}
+
+static void sheet(const char *name, const uint8_t *lines, size_t lines_len, size_t room) {
+    show_text(coinbarrow_sheet, name, "summed", lines, lines_len, room);
+}
+
+/* A string without the zero that ends it, as a pointer and a length. */
+#define BYTES(string) (const uint8_t *)(string), sizeof(string) - 1
+
+/* The longest line again and again: the sum of 100000 lengths takes more than 32 bits. */
+static void sheet_of_many(const char *name, size_t count) {
+    static const char line[] = "answer=0 length=65535\n";
+    enum { LINE_LEN = sizeof line - 1 };
+    static uint8_t lines[(COINBARROW_MOST_LINES + 1) * LINE_LEN];
+    size_t i;
+    for (i = 0; i < count * LINE_LEN; i++) lines[i] = (uint8_t)line[i % LINE_LEN];
+    sheet(name, lines, count * LINE_LEN, COINBARROW_LONGEST_SHEET);
 }
 
 int main(void) {
@@ -164,5 +187,17 @@ int main(void) {
     list("no image", NULL, 0, COINBARROW_LONGEST_TEXT);
     list_zeros("65536 zeros", COINBARROW_LONGEST_LISTED);
     list_zeros("65537 zeros", COINBARROW_LONGEST_LISTED + 1);
+    sheet("one line", BYTES("answer=0 length=4\n"), COINBARROW_LONGEST_SHEET);
+    sheet("one line", BYTES("answer=0 length=4\n"), 49);
+    sheet("one line", BYTES("answer=0 length=4\n"), 48);
+    sheet("one line", BYTES("answer=0 length=4\n"), 20);
+    sheet("one line", BYTES("answer=0 length=4\n"), 0);
+    sheet("no lines", NULL, 0, COINBARROW_LONGEST_SHEET);
+    sheet("four lines", BYTES("answer=33 length=0\nanswer=0 length=10\nanswer=2 length=0\nanswer=0 length=7\n"), COINBARROW_LONGEST_SHEET);
+    sheet("a refusal with a length, in line 2", BYTES("answer=0 length=4\nanswer=2 length=4\n"), COINBARROW_LONGEST_SHEET);
+    sheet("a leading zero, in line 1", BYTES("answer=0 length=04\nanswer=0 length=4\n"), COINBARROW_LONGEST_SHEET);
+    sheet("no newline behind line 2", BYTES("answer=0 length=4\nanswer=0 length=4"), COINBARROW_LONGEST_SHEET);
+    sheet_of_many("100000 lines", COINBARROW_MOST_LINES);
+    sheet_of_many("100001 lines", COINBARROW_MOST_LINES + 1);
     return 0;
 }

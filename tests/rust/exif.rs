@@ -1,10 +1,12 @@
-//! Coinbarrow from Rust: a safe function for each of the four that include/coinbarrow.h declares, tried on document 01's file H and a small JPEG file J.
+//! Coinbarrow from Rust: a safe function for each of the five that include/coinbarrow.h declares, tried on document 01's file H, a small JPEG file J
+//! and lines of the intake.
 
 extern "C" {
     fn coinbarrow_exif(image: *const u8, image_len: usize, out: *mut u8, out_len: usize) -> u64;
     fn coinbarrow_photo(image: *const u8, image_len: usize, out: *mut u8, out_len: usize) -> u64;
     fn coinbarrow_is_heif(bytes: *const u8, bytes_len: usize) -> bool;
     fn coinbarrow_list(image: *const u8, image_len: usize, out: *mut u8, out_len: usize) -> usize;
+    fn coinbarrow_sheet(lines: *const u8, lines_len: usize, out: *mut u8, out_len: usize) -> usize;
 }
 
 #[derive(Debug, PartialEq)]
@@ -54,6 +56,22 @@ fn list(image: &[u8]) -> String {
     let length = unsafe { coinbarrow_list(image.as_ptr(), image.len(), text.as_mut_ptr(), text.len()) };
     text.truncate(length);
     String::from_utf8(text).expect("the text is letters, digits and signs")
+}
+
+/// Room for the sheet of any lines.
+const LONGEST_SHEET: usize = 2_350;
+
+/// The morning sheet of the intake's lines, at the front of `out`, as much of it as there is room for. Gives the length of all of it.
+fn write_sheet(lines: &[u8], out: &mut [u8]) -> usize {
+    // SAFETY: as in `exif`.
+    unsafe { coinbarrow_sheet(lines.as_ptr(), lines.len(), out.as_mut_ptr(), out.len()) }
+}
+
+fn sheet(lines: &[u8]) -> String {
+    let mut text = vec![0; LONGEST_SHEET];
+    let length = write_sheet(lines, &mut text);
+    text.truncate(length);
+    String::from_utf8(text).expect("the sheet is letters, digits and signs")
 }
 
 /// One box a line.
@@ -123,8 +141,43 @@ fn listings() {
     assert_eq!(list(&[0; 65_537]), "end=65536 answer=29\n");
 }
 
+/// A line, and its sheet.
+const LINE: &[u8] = b"answer=0 length=4\n";
+const SHEET: &str = "answer=0 files=1\ntotal files=1 bytes=4 largest=4\n";
+
+fn sheets() {
+    assert_eq!(sheet(LINE), SHEET);
+    assert_eq!(sheet(&[]), "total files=0 bytes=0 largest=0\n");
+    assert_eq!(sheet(b"answer=0 length=4\nanswer=2 length=4\n"), "line=2\n");
+    assert_eq!(sheet(b"answer=0 length=4\n\n"), "line=2\n");
+    assert_eq!(sheet(b"answer=0 length=4"), "line=1\n");
+}
+
+/// An output that is too short holds the front of the sheet; the length that is given is that of all of it.
+fn cut_sheets() {
+    for room in 0..=SHEET.len() {
+        let mut out = [0xa5; SHEET.len() + 1];
+        assert_eq!(write_sheet(LINE, &mut out[..room]), SHEET.len());
+        assert_eq!(out[..room], SHEET.as_bytes()[..room]);
+        assert!(out[room..].iter().all(|&byte| byte == 0xa5));
+    }
+}
+
+/// As many lines as are counted, and one more; and the sheet that has a line for each answer.
+fn long_sheets() {
+    let lines = |count| b"answer=0 length=65535\n".repeat(count);
+    assert_eq!(sheet(&lines(100_000)), "answer=0 files=100000\ntotal files=100000 bytes=6553500000 largest=65535\n");
+    assert_eq!(sheet(&lines(100_001)), "line=100001\n");
+    let each = |name: &str, number: u32| (0..100).map(|answer| format!("answer={answer} {name}={number}\n")).collect::<String>();
+    let total = "total files=100000 bytes=0 largest=0\n";
+    assert_eq!(sheet(each("length", 0).repeat(1_000).as_bytes()), each("files", 1_000) + total);
+}
+
 fn main() {
     heif_calls();
     photo_calls();
     listings();
+    sheets();
+    cut_sheets();
+    long_sheets();
 }

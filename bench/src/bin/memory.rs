@@ -8,7 +8,7 @@ use std::sync::atomic::{AtomicUsize, Ordering::Relaxed};
 
 use bench::rows::{self, Call, Listed, Row};
 use bench::table::{grouped, Table};
-use bench::{jpeg_rows, sides};
+use bench::{jpeg_rows, sheet_rows, sides};
 
 /// The system's allocator, and what was asked of it.
 struct Counting;
@@ -89,7 +89,7 @@ fn memory(call: &mut dyn FnMut()) -> Memory {
 
 /// The heap is the Rust's alone: what the archive would allocate is not seen here. bench/run lists the functions that it calls.
 fn line(row: &Row) -> Vec<String> {
-    let image = &row.image[..];
+    let image = &row.input[..];
     let mut out = vec![0; sides::ROOM];
     let rust = memory(&mut || drop(black_box(sides::rust_exif(image))));
     let ours = memory(&mut || _ = black_box(sides::our_exif(image, &mut out)));
@@ -99,13 +99,19 @@ fn line(row: &Row) -> Vec<String> {
     [row.name.to_string()].into_iter().chain(figures.map(grouped)).collect()
 }
 
-fn photo_line(row: &Row) -> Vec<String> {
+/// The same of one call: `coinbarrow_photo`, or `coinbarrow_sheet`.
+fn call_line(row: &Row) -> Vec<String> {
+    let input = &row.input[..];
     let mut out = vec![0; sides::ROOM];
     let rust = match row.call {
-        Call::Photo => memory(&mut || drop(black_box(sides::rust_photo(&row.image)))),
-        _ => memory(&mut || drop(black_box(sides::plain_jpeg(&row.image)))),
+        Call::Sheet => memory(&mut || drop(black_box(sides::plain_sheet(input)))),
+        Call::Photo => memory(&mut || drop(black_box(sides::rust_photo(input)))),
+        _ => memory(&mut || drop(black_box(sides::plain_jpeg(input)))),
     };
-    let ours = memory(&mut || _ = black_box(sides::our_photo(&row.image, &mut out)));
+    let ours = match row.call {
+        Call::Sheet => memory(&mut || _ = black_box(sides::our_sheet(input, &mut out))),
+        _ => memory(&mut || _ = black_box(sides::our_photo(input, &mut out))),
+    };
     [row.name.to_string()].into_iter().chain([rust.stack, ours.stack, rust.heap, rust.allocations].map(grouped)).collect()
 }
 
@@ -120,20 +126,21 @@ fn main() {
         ["image", "stack, Rust", "stack, ours", "heap, Rust", "allocations, Rust", "stack of `is_heif`, Rust", "stack of `is_heif`, ours"];
     let mut table = Table::new("Extraction, and the stack of `is_heif`", head.map(str::to_string).to_vec());
     rows::extraction().iter().for_each(|row| table.add(line(row)));
-    let photo_table = |title, other, rows: Vec<Row>| {
+    let call_table = |title, input: &str, other, rows: Vec<Row>| {
         let head = [
-            "image".to_string(),
+            input.to_string(),
             format!("stack, {other}"),
             "stack, ours".to_string(),
             format!("heap, {other}"),
             format!("allocations, {other}"),
         ];
         let mut table = Table::new(title, head.to_vec());
-        rows.iter().for_each(|row| table.add(photo_line(row)));
+        rows.iter().for_each(|row| table.add(call_line(row)));
         table
     };
-    let jpeg = photo_table("JPEG by `coinbarrow_photo`", "plain Rust", jpeg_rows::jpeg());
-    let heif = photo_table("HEIF by `coinbarrow_photo`", "Rust", jpeg_rows::heif());
+    let jpeg = call_table("JPEG by `coinbarrow_photo`", "image", "plain Rust", jpeg_rows::jpeg());
+    let heif = call_table("HEIF by `coinbarrow_photo`", "image", "Rust", jpeg_rows::heif());
+    let sheet = call_table("The sheet by `coinbarrow_sheet`", "lines", "plain Rust", sheet_rows::sheet());
     let mut listing = Table::new("The listing", ["image", "bytes", "stack"].map(str::to_string).to_vec());
     rows::listing().iter().for_each(|row| listing.add(listing_line(row)));
     let own = memory(&mut || sides::empty(black_box(&[]), black_box(&mut []))).stack;
@@ -141,5 +148,6 @@ fn main() {
     table.print();
     jpeg.print();
     heif.print();
+    sheet.print();
     listing.print();
 }

@@ -19,6 +19,8 @@ use Rattle.jpeg_rules.specs.Doc.Block.{isJpeg, jpegAnswer}
 use Rattle.jpeg_rules.specs.Doc.Either.{eitherAnswer}
 use Rattle.jpeg_rules.specs.Laws.Asked.{as-heif, as-jpeg, as-neither}
 use Rattle.jpeg_rules.specs.Demands.One.{InStartedTable, started-number, either-length, either-number, either-never-31, either-room}
+use Rattle.sheet_rules.specs.Doc.Sheet.{sheet}
+use Rattle.sheet_rules.specs.Laws.SheetLength.{sheet-length}
 use Rattle.listing.specs.Whole.{too-long}
 use Rattle.coinbarrow.specs.Halves.{unpacked}
 
@@ -78,28 +80,39 @@ module _ (img out : List ℕ) {heif : Bool} (asked : heif ≡ isHeif img) (r : �
   pub photo-of-jpeg : heif ≡ false → isJpeg img ≡ true → InStartedTable (r / 2 ^ 32)
   photo-of-jpeg h j = rw (upper (jpegAnswer img out) r after (meets ∙ as-jpeg img out (sym asked ∙ h) j)) (started-number img out j)
 
--- ---- The text that `coinbarrow_list` writes
+-- ---- The text that `coinbarrow_list` or `coinbarrow_sheet` writes
 
--- Of an image that is longer than 65,536 bytes it is this line.
+-- Two outcomes of one text are the same.
+pub text-one : (text out : List ℕ) {r s : ℕ} {after after′ : List ℕ} → (r ≡ length text) × (after ≡ printed text out)
+    → (s ≡ length text) × (after′ ≡ printed text out) → (r ≡ s) × (after ≡ after′)
+text-one text out p q = (p .0 ∙ sym (q .0), p .1 ∙ sym (q .1))
+
+module _ (text out : List ℕ) (r : ℕ) (after : List ℕ) (meets : (r ≡ length text) × (after ≡ printed text out)) where
+  -- An output that is as long as the text, or longer, holds all of it, and is unchanged behind it.
+  pub text-whole : r ≤ length out → after ≡ text ++ drop r out
+  unfolding printed
+  text-whole h = meets .1 ∙ rw (take-all (length out) text (omega (arith, meets .0)), meets .0)
+
+  -- A shorter one holds as much of its front as it has bytes.
+  pub text-cut : length out ≤ r → after ≡ take (length out) text
+  unfolding printed
+  text-cut h = meets .1 ∙ rw (← meets .0, drop-of-length-le out h) (append-nil _)
+
+  -- Where it is not longer than `most`, the answer is no more than that, and an output of so many bytes holds all of it.
+  pub text-limit : (most : ℕ) → length text ≤ most → (r ≤ most) × (most ≤ length out → after ≡ text ++ drop r out)
+  text-limit most l = (omega (arith, meets .0), λ h. text-whole (omega (arith, meets .0)))
+
+-- No listing is longer than 458,772 bytes: an output of so many holds every one.
+pub listing-limit : (img out : List ℕ) (r : ℕ) (after : List ℕ) → (r ≡ length (listing img)) × (after ≡ printed (listing img) out)
+    → (r ≤ 458772) × (458772 ≤ length out → after ≡ listing img ++ drop r out)
+listing-limit img out r after meets = text-limit (listing img) out r after meets 458772 (listing-length img)
+
+-- That of an image that is longer than 65,536 bytes is this line.
 pub text-too-long : (img : List ℕ) → 65536 < length img → listing img ≡ ascii "end=65536 answer=29" ++ newline
 unfolding document
 text-too-long img h = too-long img h
 
-module _ (img out : List ℕ) (r : ℕ) (after : List ℕ) (meets : (r ≡ length (listing img)) × (after ≡ printed (listing img) out)) where
-  -- It is at most 458,772 bytes long.
-  pub text-limit : r ≤ 458772
-  text-limit = omega (arith, meets .0, listing-length img)
-
-  -- An output that is as long as the text, or longer, holds all of it, and is unchanged behind it.
-  pub text-whole : r ≤ length out → after ≡ listing img ++ drop r out
-  unfolding printed
-  text-whole h = meets .1 ∙ rw (take-all (length out) (listing img) (omega (arith, meets .0)), meets .0)
-
-  -- One of 458,772 bytes always does.
-  pub text-always-whole : 458772 ≤ length out → after ≡ listing img ++ drop r out
-  text-always-whole h = text-whole (omega (arith, text-limit))
-
-  -- A shorter one holds as much of its front as it has bytes.
-  pub text-cut : length out ≤ r → after ≡ take (length out) (listing img)
-  unfolding printed
-  text-cut h = meets .1 ∙ rw (← meets .0, drop-of-length-le out h) (append-nil _)
+-- No sheet is longer than 2,350 bytes: an output of so many holds every one.
+pub sheet-limit : (lines out : List ℕ) (r : ℕ) (after : List ℕ) → (r ≡ length (sheet lines)) × (after ≡ printed (sheet lines) out)
+    → (r ≤ 2350) × (2350 ≤ length out → after ≡ sheet lines ++ drop r out)
+sheet-limit lines out r after meets = text-limit (sheet lines) out r after meets 2350 (sheet-length lines)

@@ -7,6 +7,7 @@ ghost use Rattle.rules.specs.Doc.Answers.{answer};
 ghost use Rattle.rules.specs.Doc.Heif.{isHeif};
 ghost use Rattle.rules.specs.Doc.Listing.{listing, printed};
 ghost use Rattle.jpeg_rules.specs.Doc.Either.{eitherAnswer};
+ghost use Rattle.sheet_rules.specs.Doc.Sheet.{sheet};
 ghost use Rattle.output.specs.Told.{told};
 ghost use Rattle.coinbarrow.specs.Halves.{unpacked};
 use boxes::Refusal;
@@ -65,4 +66,13 @@ pub extern "C" fn coinbarrow_list(image: &[u8], out: &mut [u8]) -> usize
     ensures { λ r. ⌜ now (out .exit) ≡ printed (listing (now (image .entry))) (now (out .entry)) ⌝ }
 {
     listing::list_boxes(image, out)
+}
+
+// The morning sheet of `lines` goes to the front of `out`, as much of it as there is room for. The answer is the length of all of it.
+#[no_mangle]
+pub extern "C" fn coinbarrow_sheet(lines: &[u8], out: &mut [u8]) -> usize
+    ensures { λ r. ⌜ r ≡ length (sheet (now (lines .entry))) ⌝ }
+    ensures { λ r. ⌜ now (out .exit) ≡ printed (sheet (now (lines .entry))) (now (out .entry)) ⌝ }
+{
+    sheet::write_sheet(lines, out)
 }

@@ -11,11 +11,10 @@ use lib.Seq.{drop-cons, drop-drop, drop-append-seam}
 use lib.Dec.{ltb, eqb}
 use borrow.Author.Tests.{le-leb, lt-leb, lt-ltb, ltb-true, ltb-false, eq-eqb, ne-eqb, eqb-true}
 use Rattle.rules.specs.Doc.Text.{digit, decimalTo, decimal, isDigit}
-use Rattle.rules.specs.Laws.Text.{decimal-one, decimal-more, one-digit, decimal-longer}
-use Rattle.rules.specs.Laws.Rows.{by-test}
+use Rattle.rules.specs.Laws.Text.{decimal-one, decimal-more, one-digit}
+use Rattle.rules.specs.Laws.Rows.{both-true, by-test}
 use Rattle.rules.specs.Demands.Digits.{digitValue, valueFrom, decimal-back}
 use Rattle.sheet_rules.specs.Doc.Rows.{digitThen, digitsIn}
-use Rattle.sheet_rules.specs.Laws.Tests.{both-true}
 use Rattle.sheet_rules.specs.Laws.Digits.{NoDigit, is-digit, digits-append, decimal-digits, digits-front}
 use Rattle.sheet_line.specs.declared.Number.{Number}
 use Rattle.sheet_line.specs.declared.Number.the-variants.{Value, Other}
@@ -120,19 +119,16 @@ module _ (s : List ℕ) (i : ℕ) where
 
 -- ---- The digits of a number
 
-decimal-some : (n : ℕ) → 1 ≤ length (decimal n)
-decimal-some n = go (ltb n 10) refl
-  where
-    go : (t : Bool) → ltb n 10 ≡ t → 1 ≤ length (decimal n)
-    go true e = omega (arith, one-digit n (ltb-true n 10 e))
-    go false e = omega (arith, decimal-longer n (ltb-false n 10 e))
-
 some-to : (k n : ℕ) → 1 ≤ length (decimalTo k n)
 unfolding decimalTo
 some-to zero n = omega arith
 some-to (suc k) n =
     by-test (λ (l : List ℕ). 1 ≤ length l) (ltb n 10) (λ e. omega arith)
     (λ e. rw (length-append (decimalTo k (n / 10)) (digit (n % 10) ∷ [])) (omega arith))
+
+decimal-some : (n : ℕ) → 1 ≤ length (decimal n)
+unfolding decimal
+decimal-some n = some-to n n
 
 -- a number above 0 starts with no `0`
 first-to : (k n : ℕ) → 1 ≤ n → n ≤ k → 49 ≤ getD (decimalTo k n) 0 0

@@ -10,9 +10,9 @@ use lib.Dec.{leb, eqb, lit≤}
 use borrow.Author.Tests.{leb-true, eqb-true, eqb-false, eq-eqb, ne-eqb}
 use Rattle.rules.specs.Doc.Outcomes.{if_then_else_, fine}
 use Rattle.rules.specs.Doc.Lists.{any}
-use Rattle.rules.specs.Laws.Rows.{by-test}
+use Rattle.rules.specs.Laws.Rows.{by-test, both-true}
 use Rattle.capture_rules.specs.Doc.Time.{Time, pattern, decimalAt, timeIn, divides, between, leap, daysIn, isDate, isClock, time}
-use Rattle.capture_rules.specs.Laws.Shape.{both, zeros, time-digits, decimal-below, taken}
+use Rattle.capture_rules.specs.Laws.Shape.{zeros, time-digits, decimal-below, taken}
 
 -- ---- Leap years
 
@@ -23,7 +23,7 @@ Leap y = (y % 4 ≡ 0) × ((y % 100 ≡ 0 → ⊥) ⊎ (y % 400 ≡ 0))
 pub leap-means : (y : ℕ) → leap y ≡ true → Leap y
 unfolding leap
 leap-means y e =
-    let l = both (divides 4 y) (not (divides 100 y) || divides 400 y) e in
+    let l = both-true (divides 4 y) (not (divides 100 y) || divides 400 y) e in
     (eqb-true (y % 4) 0 (l .0), go (divides 100 y) refl (l .1))
   where
     go : (t : Bool) → divides 100 y ≡ t → (not t || divides 400 y) ≡ true → (y % 100 ≡ 0 → ⊥) ⊎ (y % 400 ≡ 0)
@@ -83,19 +83,19 @@ pub record Real (t : Time) : Type 0 where
 
 within : (low high n : ℕ) → between low high n ≡ true → (low ≤ n) × (n ≤ high)
 within low high n e =
-    let l = both (leb low n) (leb n high) e in
+    let l = both-true (leb low n) (leb n high) e in
     (leb-true low n (l .0), leb-true n high (l .1))
 
 pub time-real : (s : List ℕ) {t : Time} → time s ≡ fine t → Real t
 unfolding isDate isClock pattern zeros timeIn
 time-real s {t} e =
     let k = taken s e in
-    let d = both (leb 1 (t .year) && between 1 12 (t .month)) (between 1 (daysIn (t .year) (t .month)) (t .day)) (k .date) in
-    let ym = both (leb 1 (t .year)) (between 1 12 (t .month)) (d .0) in
+    let d = both-true (leb 1 (t .year) && between 1 12 (t .month)) (between 1 (daysIn (t .year) (t .month)) (t .day)) (k .date) in
+    let ym = both-true (leb 1 (t .year)) (between 1 12 (t .month)) (d .0) in
     let month = within 1 12 (t .month) (ym .1) in
     let day = within 1 (daysIn (t .year) (t .month)) (t .day) (d .1) in
-    let c = both (leb (t .hour) 23 && leb (t .minute) 59) (leb (t .second) 59) (k .clock) in
-    let hm = both (leb (t .hour) 23) (leb (t .minute) 59) (c .0) in
+    let c = both-true (leb (t .hour) 23 && leb (t .minute) 59) (leb (t .second) 59) (k .clock) in
+    let hm = both-true (leb (t .hour) 23) (leb (t .minute) 59) (c .0) in
     let year : decimalAt s 0 4 ≡ t .year = ap (λ x. x .year) (k .read) in
     record {
       year-least = leb-true 1 (t .year) (ym .0);

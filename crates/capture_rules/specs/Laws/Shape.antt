@@ -13,12 +13,8 @@ use borrow.Author.Tests.{leb-true, eqb-true, ne-eqb}
 use borrow.Author.Count.{below-more}
 use Rattle.rules.specs.Doc.Outcomes.{fine, require}
 use Rattle.rules.specs.Doc.Bytes.{byteAt}
-use Rattle.rules.specs.Laws.Rows.{bind-fine, required}
+use Rattle.rules.specs.Laws.Rows.{bind-fine, required, both-true}
 use Rattle.capture_rules.specs.Doc.Time.{Time, pattern, fits, alike, decimalAt, timeIn, isDate, isClock, time}
-
-pub both : (a b : Bool) → (a && b) ≡ true → (a ≡ true) × (b ≡ true)
-both true b e = (refl, e)
-both false b e = absurd (true≢false (sym e))
 
 -- ---- Like a pattern
 
@@ -27,14 +23,14 @@ unfolding alike
 alike-length [] [] e = refl
 alike-length [] (c ∷ cs) e = absurd (true≢false (sym e))
 alike-length (p ∷ ps) [] e = absurd (true≢false (sym e))
-alike-length (p ∷ ps) (c ∷ cs) e = ap suc (alike-length ps cs (both (fits p c) (alike ps cs) e .1))
+alike-length (p ∷ ps) (c ∷ cs) e = ap suc (alike-length ps cs (both-true (fits p c) (alike ps cs) e .1))
 
 pub alike-at : (p s : List ℕ) → alike p s ≡ true → (i : ℕ) → i < length p → fits (byteAt p i) (byteAt s i) ≡ true
 unfolding alike
 alike-at [] s e i h = absurd (omega arith)
 alike-at (p ∷ ps) [] e i h = absurd (true≢false (sym e))
-alike-at (p ∷ ps) (c ∷ cs) e zero h = both (fits p c) (alike ps cs) e .0
-alike-at (p ∷ ps) (c ∷ cs) e (suc i) h = alike-at ps cs (both (fits p c) (alike ps cs) e .1) i (le-of-suc-le-suc h)
+alike-at (p ∷ ps) (c ∷ cs) e zero h = both-true (fits p c) (alike ps cs) e .0
+alike-at (p ∷ ps) (c ∷ cs) e (suc i) h = alike-at ps cs (both-true (fits p c) (alike ps cs) e .1) i (le-of-suc-le-suc h)
 
 -- from a position on, in both: the bytes there, and the rest
 pub alike-next : (p s : List ℕ) (i : ℕ) → i < length p → i < length s
@@ -54,7 +50,7 @@ Digits s at n = (i : ℕ) → i < n → IsDigit (byteAt s (at + i))
 pub fits-digit : (c : ℕ) → fits 48 c ≡ true → IsDigit c
 unfolding fits
 fits-digit c e =
-    let l = both (leb 48 c) (leb c 57) e in
+    let l = both-true (leb 48 c) (leb c 57) e in
     (leb-true 48 c (l .0), leb-true c 57 (l .1))
 
 pub fits-same : (p c : ℕ) → (p ≡ 48 → ⊥) → fits p c ≡ true → c ≡ p
@@ -70,7 +66,7 @@ zero-at : (p : List ℕ) (at n : ℕ) → zeros p at n ≡ true → (i : ℕ) �
 unfolding zeros
 zero-at p at zero e i h = absurd (omega arith)
 zero-at p at (suc n) e i h =
-    let l = both (zeros p at n) (eqb (byteAt p (at + n)) 48) e in
+    let l = both-true (zeros p at n) (eqb (byteAt p (at + n)) 48) e in
     below-more (λ k. byteAt p (at + k) ≡ 48) n (zero-at p at n (l .0)) (eqb-true (byteAt p (at + n)) 48 (l .1)) i (omega arith)
 
 -- where the pattern has zeros, bytes like it have digits
@@ -112,5 +108,5 @@ taken s {t} e =
     let a = bind-fine (require (alike pattern s) 37) _ (sym e) in
     let b = bind-fine (require (isDate (timeIn s) && isClock (timeIn s)) 37) (λ u. fine (timeIn s)) (a .2) in
     let same : t ≡ timeIn s = cc in
-    let asked = both (isDate (timeIn s)) (isClock (timeIn s)) (required _ 37 (b .1)) in
+    let asked = both-true (isDate (timeIn s)) (isClock (timeIn s)) (required _ 37 (b .1)) in
     record { shape = required _ 37 (a .1); read = sym same; date = rw same (asked .0); clock = rw same (asked .1) }

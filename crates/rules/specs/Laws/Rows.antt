@@ -2,7 +2,7 @@
 use mathlib.Core.Path.{_≡_, refl, sym}
 use Prim.Native.Nat.{ℕ, zero, suc, _-_, _≤_}
 use native.Mathlib.Omega.{arith}
-use mathlib.Core.Bool.{Bool, true, false, _&&_}
+use mathlib.Core.Bool.{Bool, true, false, _&&_, _||_, true≢false}
 use mathlib.Core.Option.{Option, none, some}
 use lib.Dec.{T}
 use Rattle.rules.specs.Doc.Outcomes.{if_then_else_, Outcome, fine, refused, _>>=_, require, given}
@@ -40,6 +40,15 @@ bind-cong o e = bind-known o (λ x f. e x)
 pub both : (p q : Bool) → T (p && q) → T p × T q
 both true q t = (tt, t)
 both false q t = absurd t
+
+pub both-true : (p q : Bool) → (p && q) ≡ true → (p ≡ true) × (q ≡ true)
+both-true true q e = (refl, e)
+both-true false q e = absurd (true≢false (sym e))
+
+-- and two that both don't
+pub neither : (p q : Bool) → (p || q) ≡ false → (p ≡ false) × (q ≡ false)
+neither true q e = absurd (true≢false e)
+neither false q e = (refl, e)
 
 -- what holds of one thing or another, by a test
 pub by-test : {A : Type 0} (P : A → Type 0) (t : Bool) {x y : A} → (t ≡ true → P x) → (t ≡ false → P y) → P (if t then x else y)

@@ -9,8 +9,8 @@ use lib.Dec.{eqb}
 use Rattle.rules.specs.Doc.Outcomes.{if_then_else_}
 use Rattle.rules.specs.Doc.Lists.{any, each}
 use Rattle.rules.specs.Doc.Listing.{newline}
+use Rattle.rules.specs.Laws.Rows.{neither}
 use Rattle.sheet_rules.specs.Doc.Lines.{onFirst, onto, lines}
-use Rattle.sheet_rules.specs.Laws.Tests.{neither}
 use Rattle.sheet_rules.specs.Laws.Rows.{NoNewline, Flat}
 
 -- ---- A line that ends in its only newline

@@ -13,10 +13,10 @@ use Rattle.rules.specs.Doc.Lists.{any}
 use Rattle.rules.specs.Doc.Text.{ascii, decimal}
 use Rattle.rules.specs.Doc.Listing.{newline, named}
 use Rattle.rules.specs.Demands.Digits.{decimal-back}
+use Rattle.rules.specs.Laws.Rows.{both-true, neither}
 use Rattle.sheet_rules.specs.Doc.Rows.{rowText, digitThen, digitsIn, numbersIn}
 use Rattle.sheet_rules.specs.Doc.Lines.{lineNames}
 use Rattle.sheet_rules.specs.Doc.Sheet.{countNames, totalNames}
-use Rattle.sheet_rules.specs.Laws.Tests.{both-true, neither}
 use Rattle.sheet_rules.specs.Laws.Digits.{AllDigits, NoDigit, decimal-digits, digits-front}
 
 abbrev pub NoNewline : List ℕ → Type 0

@@ -14,9 +14,10 @@ use Rattle.rules.specs.Doc.Outcomes.{if_then_else_}
 use Rattle.rules.specs.Doc.Lists.{same}
 use Rattle.rules.specs.Doc.Listing.{newline}
 use Rattle.rules.specs.Laws.Text.{two-digits, five-digits}
+use Rattle.rules.specs.Laws.Rows.{both-true}
 use Rattle.sheet_rules.specs.Doc.Rows.{rowText}
 use Rattle.sheet_rules.specs.Doc.Lines.{Entry, lineNames, lineText, allowed, entryOf, entryIn}
-use Rattle.sheet_rules.specs.Laws.Tests.{both-true, same-is, same-self}
+use Rattle.sheet_rules.specs.Laws.Same.{same-is, same-self}
 use Rattle.sheet_rules.specs.Laws.Rows.{line-names, numbers-back, Flat, row-flat}
 
 -- ---- What is allowed

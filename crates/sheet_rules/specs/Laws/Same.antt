@@ -1,19 +1,12 @@
--- What tests show: two of them, and that bytes are the same.
+-- The test whether bytes are the same.
 use mathlib.Core.Path.{_≡_, refl, sym}
 use Prim.Native.Nat.{ℕ}
-use mathlib.Core.Bool.{Bool, true, false, _&&_, _||_, true≢false}
+use mathlib.Core.Bool.{true, true≢false}
 use mathlib.Core.List.{List, [], _∷_}
 use lib.Dec.{eqb}
 use borrow.Author.Tests.{eqb-true, eq-eqb}
 use Rattle.rules.specs.Doc.Lists.{same}
-
-pub both-true : (p q : Bool) → (p && q) ≡ true → (p ≡ true) × (q ≡ true)
-both-true true q e = (refl, e)
-both-true false q e = absurd (true≢false (sym e))
-
-pub neither : (p q : Bool) → (p || q) ≡ false → (p ≡ false) × (q ≡ false)
-neither true q e = absurd (true≢false e)
-neither false q e = (refl, e)
+use Rattle.rules.specs.Laws.Rows.{both-true}
 
 pub same-is : (a b : List ℕ) → same a b ≡ true → a ≡ b
 unfolding same
