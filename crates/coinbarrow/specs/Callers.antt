@@ -82,11 +82,6 @@ module _ (img out : List ℕ) {heif : Bool} (asked : heif ≡ isHeif img) (r : �
 
 -- ---- The text that `coinbarrow_list` or `coinbarrow_sheet` writes
 
--- Two outcomes of one text are the same.
-pub text-one : (text out : List ℕ) {r s : ℕ} {after after′ : List ℕ} → (r ≡ length text) × (after ≡ printed text out)
-    → (s ≡ length text) × (after′ ≡ printed text out) → (r ≡ s) × (after ≡ after′)
-text-one text out p q = (p .0 ∙ sym (q .0), p .1 ∙ sym (q .1))
-
 module _ (text out : List ℕ) (r : ℕ) (after : List ℕ) (meets : (r ≡ length text) × (after ≡ printed text out)) where
   -- An output that is as long as the text, or longer, holds all of it, and is unchanged behind it.
   pub text-whole : r ≤ length out → after ≡ text ++ drop r out

@@ -9,8 +9,9 @@ use Rattle.rules.specs.Doc.Heif.{isHeif}
 use Rattle.rules.specs.Doc.Listing.{listing, printed}
 use Rattle.jpeg_rules.specs.Doc.Either.{eitherAnswer}
 use Rattle.sheet_rules.specs.Doc.Sheet.{sheet}
+use Rattle.text.specs.Unique.{text-one}
 use Rattle.coinbarrow.specs.Halves.{unpacked}
-use Rattle.coinbarrow.specs.Callers.{packed-one, text-one}
+use Rattle.coinbarrow.specs.Callers.{packed-one}
 
 -- of `coinbarrow_exif`
 pub exif-one : (img out : List ℕ) (r s : ℕ) (after after′ : List ℕ) → unpacked r after ≡ answer img out → unpacked s after′ ≡ answer img out

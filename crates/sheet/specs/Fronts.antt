@@ -17,10 +17,11 @@ pub record Whole (input before : List ℕ) (r : ℕ) (after : List ℕ) : Type 0
 abbrev pub OfEvery : List ℕ → ℕ → List ℕ → ℕ → List ℕ → Type 0
 OfEvery front n before r after = (input : List ℕ) → take (length front) input ≡ take n front → Whole input before r after
 
-pub of-every : (front : List ℕ) (n : ℕ) (before : List ℕ) (r : ℕ) (after : List ℕ) → mostBytes < length front
-    → r ≡ length (sheet (take n front)) → after ≡ sheet (take n front) ++ drop r before → OfEvery front n before r after
-of-every front n before r after h e f input g =
-    let same : sheet (take n front) ≡ sheet input = ap sheet (sym g) ∙ front-sheet (length front) h input in
+-- `lines` are those that were read
+pub of-every : (front : List ℕ) (n : ℕ) {lines before : List ℕ} {r : ℕ} {after : List ℕ} → mostBytes < length front → take n front ≡ lines
+    → r ≡ length (sheet lines) → after ≡ sheet lines ++ drop r before → OfEvery front n before r after
+of-every front n {lines} h read e f input g =
+    let same : sheet lines ≡ sheet input = ap sheet (sym (g ∙ read)) ∙ front-sheet (length front) h input in
     record { size = rw same at e; buffer = rw same at f }
 
 -- there is such an input, the front itself

@@ -5,12 +5,13 @@ use mathlib.Core.List.{List, _++_}
 use lib.ListN.{length, take, drop}
 use Rattle.rules.specs.Doc.Listing.{printed}
 use Rattle.sheet_rules.specs.Doc.Sheet.{sheet}
+use Rattle.text.specs.Unique.{text-one}
 use Rattle.sheet.specs.Fronts.{OfEvery, of-front}
 
 -- of `write_sheet`
 pub sheet-one : (input out : List ℕ) {r r′ : ℕ} {after after′ : List ℕ} → (r ≡ length (sheet input)) × (after ≡ printed (sheet input) out)
     → (r′ ≡ length (sheet input)) × (after′ ≡ printed (sheet input) out) → (r ≡ r′) × (after ≡ after′)
-sheet-one input out p q = (p .0 ∙ sym (q .0), p .1 ∙ sym (q .1))
+sheet-one input out = text-one (sheet input) out
 
 -- of `write_whole_sheet`
 pub whole-one : (input out : List ℕ) {r r′ : ℕ} {after after′ : List ℕ} → (r ≡ length (sheet input)) × (after ≡ sheet input ++ drop r out)

@@ -48,15 +48,17 @@ pub fn write_whole_sheet(lines: &[u8], out: &mut [u8; LONGEST_SHEET]) -> usize
 
 // Over a slice, since no part of an array behind a reference can be lent.
 fn write_front(front: &[u8], n: usize, out: &mut [u8; LONGEST_SHEET]) -> usize
-    requires { ⌜ (n ≤ length (now front)) × (2300000 < length (now front)) ⌝ }
+    requires { ⌜ 2300000 < length (now front) ⌝ }
     ensures { λ r. ⌜ OfEvery (now (front .entry)) n (now (out .entry)) r (now (out .exit)) ⌝ }
 {
+    if front.len() < n {
+        return write_whole_sheet(front, out);
+    }
     write_whole_sheet(&front[..n], out)
 }
 
 // The sheet of an input of which `front` has the first bytes: n of them, which are all, or as many as it holds. Whatever stands behind them has no say.
 pub fn write_front_sheet(front: &[u8; MOST_INPUT], n: usize, out: &mut [u8; LONGEST_SHEET]) -> usize
-    requires { ⌜ n ≤ 2300001 ⌝ }
     ensures { λ r. ⌜ OfEvery (now (front .entry)) n (now (out .entry)) r (now (out .exit)) ⌝ }
 {
     write_front(front, n, out)
