@@ -1,5 +1,4 @@
-// The lines of a sheet. Each function but the last two writes from a position on; where a text is too long for the buffer, the place behind it
-// counts on.
+// The lines of a sheet, from a position on or from the front of the buffer; where there is no room left, the place behind a text counts on.
 ghost use mathlib.Core.Path.{_≡_};
 ghost use Prim.Native.Nat.{_+_, _^_, _≤_, _<_};
 ghost use lib.ListN.{length};
