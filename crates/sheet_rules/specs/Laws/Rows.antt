@@ -52,7 +52,9 @@ pub row-apart : (names : List String) → Names names → (ns rest : List ℕ) �
 unfolding rowText digitsIn digitThen
 row-apart [] p ns rest = refl
 row-apart (name ∷ names) p [] rest = refl
-row-apart (name ∷ names) p (n ∷ ns) rest = rw (append-assoc, append-assoc) (p .0 .apart (decimal n ++ (rowText names ns ++ rest)))
+row-apart (name ∷ names) p (n ∷ ns) rest =
+    let behind = rowText names ns ++ rest in
+    rw (append-assoc (named name n) (rowText names ns) rest, append-assoc (ascii name) (decimal n) behind) (p .0 .apart (decimal n ++ behind))
 
 row-end : (names : List String) → Names names → (ns : List ℕ) → NoDigit (rowText names ns)
 row-end names p ns = rw (append-nil (rowText names ns)) at (row-apart names p ns [])
