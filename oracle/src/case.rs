@@ -1,4 +1,4 @@
-//! A case: an image and an output's length, as `answers` reads them and as the Rust answers them.
+//! A case: an image and an output's length, as `cases` reads them and as the Rust answers them.
 
 use crate::dice::Dice;
 
@@ -13,6 +13,9 @@ pub struct Expected {
     pub number: u32,
     pub line: String,
 }
+
+/// The kind of case that asks for extraction and `is_heif`.
+const KIND: u8 = b'h';
 
 /// What the output holds before the call.
 const BEFORE: u8 = 0xa5;
@@ -36,8 +39,9 @@ impl Case {
         Case { image, out }
     }
 
-    /// As `answers` reads it.
+    /// As `cases` reads it.
     pub fn write(&self, to: &mut Vec<u8>) {
+        to.push(KIND);
         to.extend((self.image.len() as u32).to_be_bytes());
         to.extend((self.out as u32).to_be_bytes());
         to.extend(&self.image);

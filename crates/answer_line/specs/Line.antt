@@ -5,8 +5,9 @@ use mathlib.Core.Bool.{Bool, true, false}
 use mathlib.Core.List.{List, [], _∷_, _++_}
 use Rattle.rules.specs.Doc.Outcomes.{if_then_else_}
 use Rattle.rules.specs.Doc.Text.{ascii, digit, hex, decimalTo, decimal}
-use Rattle.rules.specs.Doc.Listing.{newline, named}
+use Rattle.rules.specs.Doc.Listing.{newline}
 use Rattle.rules.specs.Doc.Answers.{Answer}
+use Rattle.answer_numbers.specs.Numbers.{numbersText}
 
 -- two digits a byte
 unfoldable pub hexes : List ℕ → List ℕ
@@ -17,9 +18,6 @@ hexes (b ∷ bs) = hex 2 b ++ hexes bs
 unfoldable pub outText : List ℕ → List ℕ
 outText [] = ascii "-"
 outText (b ∷ bs) = hexes (b ∷ bs)
-
-unfoldable pub numbersText : ℕ → ℕ → List ℕ
-numbersText number length = named "answer=" number ++ named " length=" length
 
 -- whether the image is of the kind that the word asks for
 unfoldable pub kindText : List ℕ → Bool → List ℕ

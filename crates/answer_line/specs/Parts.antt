@@ -1,16 +1,14 @@
--- What the proofs cite: the digits of bytes and of a number, and what was copied from the front on.
+-- What the proofs cite: the digits of bytes, and what was copied from the front on.
 use mathlib.Core.Path.{_≡_, refl, sym, ap, _∙_}
-use Prim.Native.Nat.{ℕ, _+_, _-_, _/_, _%_, _^_, _≤_, _<_}
+use Prim.Native.Nat.{ℕ, _+_, _-_, _/_, _%_, _≤_, _<_}
 use native.Mathlib.Omega.{arith}
 use native.Mathlib.Numerals.{add-one}
 use mathlib.Core.List.{List, [], _∷_, _++_, append-assoc, append-nil}
-use lib.ListN.{length, take, drop, getD, length-take}
-use lib.Seq.{take-suc, take-append-seam, length-sets}
-use Rattle.rules.specs.Doc.Text.{ascii, digit, hex, decimal}
+use lib.ListN.{length, take, getD, length-take}
+use lib.Seq.{take-suc, length-sets}
+use Rattle.rules.specs.Doc.Text.{ascii, digit, hex}
 use Rattle.rules.specs.Doc.Listing.{printed}
-use Rattle.rules.specs.Laws.Over.{over-room, over-front}
-use Rattle.rules.specs.Laws.Text.{twenty-digits}
-use Rattle.text.specs.Wrote.{Wrote}
+use Rattle.rules.specs.Laws.Over.{over-front}
 use Rattle.output.specs.Copied.{Copied}
 use Rattle.answer_line.specs.Line.{hexes, outText}
 
@@ -42,18 +40,6 @@ pub out-none : (s : List ℕ) → length s ≡ 0 → outText s ≡ ascii "-"
 unfolding outText
 out-none [] h = refl
 out-none (b ∷ s) h = absurd (omega (arith, h))
-
--- ---- Numbers
-
--- twenty bytes hold every number of 64 bits, and its digits are what stands at their front
-pub digits-front : (n : ℕ) {k : ℕ} {before after : List ℕ} → n < 2 ^ 64 → length before ≡ 20 → Wrote (decimal n) 0 before k after
-    → (k ≤ length after) × (take k after ≡ decimal n)
-digits-front n {k} {before} {after} h room w =
-    let few = twenty-digits n h in
-    let k≡ : k ≡ length (decimal n) = omega (arith, w .place) in
-    let kept = length-sets before 0 (decimal n) in
-    let front = w .buffer ∙ over-room (decimal n) before (omega (arith, few, room)) in
-    (rw (w .buffer) (omega (arith, few, room, kept, k≡)), rw (front, k≡) (take-append-seam (decimal n) (drop (length (decimal n)) before)))
 
 -- ---- The line
 

@@ -1,30 +1,15 @@
 // The line that says what extraction answered for a case, as text in a lent buffer. Each function puts its text from a position on, as much as there
 // is room for, and answers the place behind the last byte.
 ghost use mathlib.Core.Path.{_≡_};
-ghost use Prim.Native.Nat.{ℕ, _%_};
-ghost use mathlib.Core.List.{List};
-ghost use Rattle.rules.specs.Doc.Text.{digit as Text·digit, hex, decimal};
+ghost use Prim.Native.Nat.{_%_};
+ghost use Rattle.rules.specs.Doc.Text.{digit as Text·digit, hex};
 ghost use Rattle.rules.specs.Doc.Listing.{printed};
 ghost use Rattle.output.specs.Told.{told};
 ghost use Rattle.output.specs.Copied.{Copied};
-ghost use Rattle.answer_line.specs.Line.{outText, numbersText, kindText, answerText};
+ghost use Rattle.answer_line.specs.Line.{outText, kindText, answerText};
 use libc::STDOUT_FILENO;
 use output::Extracted;
 use output::put;
-
-// The longest output that a line has room for.
-pub const MOST_OUT: usize = 131072;
-
-// Two digits for each byte of the output, and the words around them.
-pub const MOST_LINE: usize = 2 * MOST_OUT + 64;
-
-fn put_decimal(n: usize, line: &mut [u8], at: usize) -> usize
-    ensures { λ r. ⌜ Copied (decimal n) at (now (line .entry)) r (now (line .exit)) ⌝ }
-{
-    let mut digits = [0u8; 20];
-    let k = text::put_decimal(n, &mut digits, 0);
-    put(&digits[..k], 0, line, at)
-}
 
 // The digit of the byte's lower half.
 fn digit(b: u8) -> u8
@@ -56,27 +41,6 @@ fn put_out(out: &[u8], line: &mut [u8], at: usize) -> usize
     end
 }
 
-// From 0 on: every line stands at the front of the buffer.
-fn put_numbers(number: usize, length: usize, line: &mut [u8]) -> usize
-    ensures { λ r. ⌜ Copied (numbersText number length) 0 (now (line .entry)) r (now (line .exit)) ⌝ }
-{
-    let at = put(b"answer=", 0, line, 0);
-    let at = put_decimal(number, line, at);
-    let at = put(b" length=", 0, line, at);
-    put_decimal(length, line, at)
-}
-
-// The number and the length, at the front of the buffer. Only 0 and 28 carry a length.
-pub fn put_answer(answer: Extracted, line: &mut [u8]) -> usize
-    ensures { λ r. ⌜ ((out : List ℕ) → Copied (numbersText (told answer out .number) (told answer out .length)) 0 (now (line .entry)) r (now (line .exit))) ⌝ }
-{
-    match answer {
-        Extracted::Done(block) => put_numbers(0, block, line),
-        Extracted::NoRoom(needed) => put_numbers(28, needed, line),
-        Extracted::Refused(refusal) => put_numbers(refusal.number() as usize, 0, line),
-    }
-}
-
 fn put_kind(word: &[u8], holds: bool, line: &mut [u8], at: usize) -> usize
     ensures { λ r. ⌜ Copied (kindText (now (word .entry)) holds) at (now (line .entry)) r (now (line .exit)) ⌝ }
 {
@@ -90,7 +54,7 @@ fn put_kind(word: &[u8], holds: bool, line: &mut [u8], at: usize) -> usize
 fn of_answer(answer: Extracted, word: &[u8], holds: bool, out: &[u8], line: &mut [u8]) -> usize
     ensures { λ r. ⌜ Copied (answerText (told answer (now (out .entry))) (now (word .entry)) holds) 0 (now (line .entry)) r (now (line .exit)) ⌝ }
 {
-    let at = put_answer(answer, line);
+    let at = answer_numbers::put_answer(answer, line);
     let at = put_kind(word, holds, line, at);
     let at = put_out(out, line, at);
     put(b"\n", 0, line, at)

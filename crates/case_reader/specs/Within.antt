@@ -4,5 +4,5 @@ use Rattle.case_reader.specs.declared.Next.{Next}
 use Rattle.case_reader.specs.declared.Next.the-variants.{Case, Over}
 
 abbrev pub Within : ℕ → ℕ → Next → Type 0
-Within images outs (Case image out) = (image ≤ images) × (out ≤ outs)
+Within images outs (Case kind image out) = (image ≤ images) × (out ≤ outs)
 Within images outs Over = Unit

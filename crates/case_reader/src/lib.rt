@@ -1,14 +1,18 @@
-// A run of cases on standard input, for the programs that go through one. A case is the image's length and the output's length, four bytes each,
-// big-endian, then the image.
+// A run of cases on standard input. A case is a byte that names its kind, the image's length and the output's length, four bytes each, big-endian,
+// then the image.
 ghost use mathlib.Core.Path.{_≡_};
 ghost use lib.ListN.{length, replicate};
 ghost use Rattle.case_reader.specs.Within.{Within};
 use libc::STDIN_FILENO;
 use libc::STDOUT_FILENO;
 
-// The two lengths of a case; or the run is over.
+// The kind and the two lengths of a case; or the run is over.
 pub enum Next {
-    Case { image_len: usize, out_len: usize },
+    Case {
+        kind: u8,
+        image_len: usize,
+        out_len: usize,
+    },
     Over,
 }
 
@@ -27,16 +31,17 @@ fn stop(case: u64, why: &[u8]) -> Next
 pub fn next_case(case: u64, image: &mut [u8], most: usize) -> Next
     ensures { λ r. ⌜ Within (length (now (image .exit))) most r ⌝ }
 {
-    let mut head = [0u8; 8];
+    let mut head = [0u8; 9];
     let got = io::read_full(STDIN_FILENO, &mut head);
     if got == 0 {
         return Next::Over;
     }
-    if got < 8 {
+    if got < 9 {
         return stop(case, b" cut\n");
     }
-    let n = endian::loadu32(&head, 0) as usize;
-    let m = endian::loadu32(&head, 4) as usize;
+    let kind = head[0];
+    let n = endian::loadu32(&head, 1) as usize;
+    let m = endian::loadu32(&head, 5) as usize;
     if image.len() < n || most < m {
         return stop(case, b" too long\n");
     }
@@ -44,6 +49,7 @@ pub fn next_case(case: u64, image: &mut [u8], most: usize) -> Next
         return stop(case, b" cut\n");
     }
     Next::Case {
+        kind: kind,
         image_len: n,
         out_len: m,
     }

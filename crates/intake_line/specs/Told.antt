@@ -17,7 +17,7 @@ use Rattle.sheet_rules.specs.Doc.Rows.{rowText}
 use Rattle.sheet_rules.specs.Doc.Lines.{Entry, lineNames, lineText}
 use Rattle.sheet_rules.specs.Laws.Shape.{line-limit}
 use Rattle.output.specs.Copied.{Copied}
-use Rattle.answer_line.specs.Line.{numbersText}
+use Rattle.answer_numbers.specs.Numbers.{numbersText}
 use Rattle.intake_line.specs.Line.{entryFor, intakeEntry, intakeText}
 use Rattle.intake_line.specs.Demands.{intake-allowed}
 

@@ -21,7 +21,7 @@ pub const LONGEST_LINE: usize = 23;
 fn put_line(answer: Extracted, line: &mut [u8]) -> usize
     ensures { λ r. ⌜ ((out : List ℕ) → Copied (lineText (toldEntry (told answer out))) 0 (now (line .entry)) r (now (line .exit))) ⌝ }
 {
-    let at = answer_line::put_answer(answer, line);
+    let at = answer_numbers::put_answer(answer, line);
     output::put(b"\n", 0, line, at)
 }
 

@@ -1,4 +1,4 @@
-//! Stands in for `answers` to see that the comparison notices: the Rust's lines, but for one kind of case.
+//! Stands in for `cases` to see that the comparison notices: the Rust's lines, but for one kind of case.
 //!
 //!     liar SLIP
 
@@ -25,13 +25,13 @@ fn told(slip: &str, case: &Case) -> String {
 fn main() {
     let slip = std::env::args().nth(1).expect("liar SLIP");
     let mut input = BufReader::new(stdin());
-    let mut head = [0; 8];
+    let mut head = [0; 9];
     while input.read_exact(&mut head).is_ok() {
         let number = |at: usize| u32::from_be_bytes(head[at..at + 4].try_into().unwrap()) as usize;
-        let mut image = vec![0; number(0)];
+        let mut image = vec![0; number(1)];
         input.read_exact(&mut image).unwrap();
-        let told = told(&slip, &Case { image, out: number(4) });
-        // Written as it is made, as `answers` does. A line that is cut is the last one.
+        let told = told(&slip, &Case { image, out: number(5) });
+        // Written as it is made, as `cases` does. A line that is cut is the last one.
         if stdout().write_all(told.as_bytes()).and(stdout().flush()).is_err() || !told.ends_with('\n') {
             return;
         }

@@ -22,6 +22,9 @@ stop-requires c κs = search needs
 returns-2 : tie.Need-returns-2
 returns-2 c = rw (c .stop .ensures) tt
 
+array-read-kind : tie.Need-array-read-kind
+array-read-kind c = search needs
+
 slice-aggregate-loadu32 : tie.Need-slice-aggregate-loadu32
 slice-aggregate-loadu32 c = search needs
 
@@ -86,6 +89,7 @@ next-case-spec =
     slice-aggregate-stop
     stop-requires
     returns-2
+    array-read-kind
     slice-aggregate-loadu32
     loadu32-requires
     cast-n
