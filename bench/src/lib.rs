@@ -1,8 +1,9 @@
-//! What is measured: the images and lines, the rows that they make, and the two sides.
+//! What is measured: the images and lines, the rows that they make, the two sides, and the limits beside them.
 
 pub mod images;
 pub mod jpeg_rows;
 pub mod jpegs;
+pub mod limits;
 pub mod plain;
 pub mod plain_sheet;
 pub mod rows;

@@ -1,21 +1,22 @@
-//! Three ways to measure a call of each side, or of ours alone.
+//! Three ways to measure a call of each side and of the limit beside them, or of ours alone.
 
 use std::hint::black_box;
 use std::time::Instant;
 
-/// What a call of each side takes.
-pub struct Pair {
+/// What a call of each side takes, and the limit where the row has one.
+pub struct Costs {
     pub rust: f64,
     pub ours: f64,
+    pub limit: Option<f64>,
 }
 
 pub trait Meter {
-    fn measure(&mut self, rust: impl FnMut(), ours: impl FnMut()) -> Pair;
+    fn measure(&mut self, rust: impl FnMut(), ours: impl FnMut(), limit: Option<impl FnMut()>) -> Costs;
     /// Where the Rust has no such call.
     fn alone(&mut self, ours: impl FnMut()) -> f64;
 }
 
-/// The sides take turns, a batch of calls each, so that whatever else the machine does meets both.
+/// The sides and the limit take turns, a batch of calls each, so that whatever else the machine does meets all of them.
 pub struct Clock;
 
 pub const BATCHES: usize = 25;
@@ -39,20 +40,39 @@ fn calls_of_batch(call: &mut impl FnMut()) -> u32 {
     calls
 }
 
-impl Meter for Clock {
-    fn measure(&mut self, mut rust: impl FnMut(), mut ours: impl FnMut()) -> Pair {
-        let calls = (calls_of_batch(&mut rust), calls_of_batch(&mut ours));
-        let mut best = Pair { rust: f64::MAX, ours: f64::MAX };
-        for _ in 0..BATCHES {
-            best.rust = best.rust.min(batch(calls.0, &mut rust) / f64::from(calls.0));
-            best.ours = best.ours.min(batch(calls.1, &mut ours) / f64::from(calls.1));
-        }
-        best
+/// A call, how many of it a batch has, and what one took in the fastest batch so far.
+struct Timed<F> {
+    call: F,
+    calls: u32,
+    best: f64,
+}
+
+impl<F: FnMut()> Timed<F> {
+    fn new(mut call: F) -> Timed<F> {
+        let calls = calls_of_batch(&mut call);
+        Timed { call, calls, best: f64::MAX }
     }
 
-    fn alone(&mut self, mut ours: impl FnMut()) -> f64 {
-        let calls = calls_of_batch(&mut ours);
-        (0..BATCHES).map(|_| batch(calls, &mut ours) / f64::from(calls)).fold(f64::MAX, f64::min)
+    fn turn(&mut self) {
+        self.best = self.best.min(batch(self.calls, &mut self.call) / f64::from(self.calls));
+    }
+}
+
+impl Meter for Clock {
+    fn measure(&mut self, rust: impl FnMut(), ours: impl FnMut(), limit: Option<impl FnMut()>) -> Costs {
+        let (mut rust, mut ours, mut limit) = (Timed::new(rust), Timed::new(ours), limit.map(Timed::new));
+        for _ in 0..BATCHES {
+            rust.turn();
+            ours.turn();
+            limit.iter_mut().for_each(Timed::turn);
+        }
+        Costs { rust: rust.best, ours: ours.best, limit: limit.map(|limit| limit.best) }
+    }
+
+    fn alone(&mut self, ours: impl FnMut()) -> f64 {
+        let mut ours = Timed::new(ours);
+        (0..BATCHES).for_each(|_| ours.turn());
+        ours.best
     }
 }
 
@@ -71,8 +91,14 @@ extern "C" fn count_mark_ours() {
 
 #[no_mangle]
 #[inline(never)]
-extern "C" fn count_mark_end() {
+extern "C" fn count_mark_limit() {
     black_box(3);
+}
+
+#[no_mangle]
+#[inline(never)]
+extern "C" fn count_mark_end() {
+    black_box(4);
 }
 
 /// Measures nothing: it makes the calls between marks, for an emulator that counts.
@@ -84,15 +110,19 @@ const BEFORE: usize = 8;
 pub const CALLS: usize = 4;
 
 impl Meter for Marks {
-    fn measure(&mut self, mut rust: impl FnMut(), mut ours: impl FnMut()) -> Pair {
+    fn measure(&mut self, mut rust: impl FnMut(), mut ours: impl FnMut(), mut limit: Option<impl FnMut()>) -> Costs {
         (0..BEFORE).for_each(|_| rust());
         (0..BEFORE).for_each(|_| ours());
         count_mark_rust();
         (0..CALLS).for_each(|_| rust());
         count_mark_ours();
         (0..CALLS).for_each(|_| ours());
+        if let Some(limit) = &mut limit {
+            count_mark_limit();
+            (0..CALLS).for_each(|_| limit());
+        }
         count_mark_end();
-        Pair { rust: 0.0, ours: 0.0 }
+        Costs { rust: 0.0, ours: 0.0, limit: limit.map(|_| 0.0) }
     }
 
     fn alone(&mut self, mut ours: impl FnMut()) -> f64 {
@@ -128,8 +158,8 @@ impl Counted {
 }
 
 impl Meter for Counted {
-    fn measure(&mut self, _: impl FnMut(), _: impl FnMut()) -> Pair {
-        Pair { rust: self.next("rust"), ours: self.next("ours") }
+    fn measure(&mut self, _: impl FnMut(), _: impl FnMut(), limit: Option<impl FnMut()>) -> Costs {
+        Costs { rust: self.next("rust"), ours: self.next("ours"), limit: limit.map(|_| self.next("limit")) }
     }
 
     fn alone(&mut self, _: impl FnMut()) -> f64 {

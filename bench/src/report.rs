@@ -6,7 +6,7 @@ use bench::rows::{Call, Group, Row};
 use bench::sides;
 use bench::table::{grouped, Table};
 
-use crate::meters::{Meter, Pair};
+use crate::meters::{Costs, Meter};
 
 /// The answer that both sides give. Stops where they differ.
 fn agreed(row: &Row) -> String {
@@ -29,38 +29,47 @@ fn sheet_answer(text: &str) -> String {
     }
 }
 
-/// The output is made once and not cleared between calls. The Rust allocates its answer and it is freed: both are part of its call.
-fn measure_row(row: &Row, meter: &mut impl Meter) -> Pair {
+/// The output is made once and not cleared between calls. The Rust allocates its answer and it is freed: both are part of its call. That of the limit lies
+/// on the stack, so that the Rust finds the heap as it would without it.
+fn measure_row(row: &Row, meter: &mut impl Meter) -> Costs {
     let input = &row.input[..];
     let mut out = vec![0; sides::ROOM];
+    let copy: &mut [u8] = &mut [0; sides::ROOM];
+    let limit = row.limit.as_ref().map(|limit| move || _ = black_box(black_box(limit).run(black_box(input), black_box(copy))));
     match row.call {
         Call::Exif => meter.measure(
             || drop(black_box(sides::rust_exif(black_box(input)))),
             || _ = black_box(sides::our_exif(black_box(input), black_box(&mut out))),
+            limit,
         ),
         Call::Photo => meter.measure(
             || drop(black_box(sides::rust_photo(black_box(input)))),
             || _ = black_box(sides::our_photo(black_box(input), black_box(&mut out))),
+            limit,
         ),
         Call::Jpeg => meter.measure(
             || drop(black_box(sides::plain_jpeg(black_box(input)))),
             || _ = black_box(sides::our_photo(black_box(input), black_box(&mut out))),
+            limit,
         ),
         Call::Sheet => meter.measure(
             || drop(black_box(sides::plain_sheet(black_box(input)))),
             || _ = black_box(sides::our_sheet(black_box(input), black_box(&mut out))),
+            limit,
         ),
-        Call::Heif => {
-            meter.measure(|| _ = black_box(sides::rust_is_heif(black_box(input))), || _ = black_box(sides::our_is_heif(black_box(input))))
-        }
-        Call::Empty => meter.measure(|| sides::empty(black_box(input), &mut []), || sides::empty(black_box(input), &mut [])),
+        Call::Heif => meter.measure(
+            || _ = black_box(sides::rust_is_heif(black_box(input))),
+            || _ = black_box(sides::our_is_heif(black_box(input))),
+            limit,
+        ),
+        Call::Empty => meter.measure(|| sides::empty(black_box(input), &mut []), || sides::empty(black_box(input), &mut []), limit),
     }
 }
 
 /// Groups, and the figures of each one's rows.
 pub struct Measured {
     groups: Vec<Group>,
-    pairs: Vec<Vec<Pair>>,
+    costs: Vec<Vec<Costs>>,
 }
 
 /// Both sides have to give the same answer on every input; nothing of these groups is measured before that.
@@ -68,8 +77,8 @@ pub fn measure(groups: Vec<Group>, meter: &mut impl Meter) -> Measured {
     for row in groups.iter().flat_map(|group| &group.rows) {
         agreed(row);
     }
-    let pairs = groups.iter().map(|group| group.rows.iter().map(|row| measure_row(row, meter)).collect()).collect();
-    Measured { groups, pairs }
+    let costs = groups.iter().map(|group| group.rows.iter().map(|row| measure_row(row, meter)).collect()).collect();
+    Measured { groups, costs }
 }
 
 /// One digit after the point of a small figure, none of another.
@@ -82,8 +91,8 @@ pub fn figure(number: f64) -> String {
 }
 
 /// In bold where ours takes more.
-fn ratio(row: &Row, pair: &Pair) -> String {
-    let ratio = pair.ours / pair.rust;
+fn ratio(row: &Row, costs: &Costs) -> String {
+    let ratio = costs.ours / costs.rust;
     match row.call {
         Call::Empty => "-".to_string(),
         _ if ratio < 0.01 => format!("{ratio:.5}"),
@@ -106,28 +115,29 @@ fn parts(row: &Row) -> (&'static str, &'static str, usize) {
 }
 
 /// In a group of growth, what a byte of the image or a line costs too.
-fn line(group: &Group, row: &Row, pair: &Pair) -> Vec<String> {
+fn line(group: &Group, row: &Row, costs: &Costs) -> Vec<String> {
     let bytes = grouped(row.input.len());
-    let mut line = vec![row.name.to_string(), bytes, agreed(row), figure(pair.rust), figure(pair.ours), ratio(row, pair)];
+    let mut line = vec![row.name.to_string(), bytes, agreed(row), figure(costs.rust), figure(costs.ours), ratio(row, costs)];
+    line.push(costs.limit.map_or("-".to_string(), figure));
     if group.growth {
         let (_, _, count) = parts(row);
-        line.extend([pair.rust, pair.ours].map(|number| apiece(number, count)));
+        line.extend([costs.rust, costs.ours].map(|number| apiece(number, count)));
     }
     line
 }
 
 pub fn print(measured: &Measured, unit: &str) {
-    for (group, pairs) in measured.groups.iter().zip(&measured.pairs) {
+    for (group, costs) in measured.groups.iter().zip(&measured.costs) {
         let (input, part, _) = parts(&group.rows[0]);
         let mut head = [input, "bytes", "answer"].map(str::to_string).to_vec();
         let other = group.other;
-        head.extend([format!("{other}, {unit}"), format!("ours, {unit}"), format!("ours / {other}")]);
+        head.extend([format!("{other}, {unit}"), format!("ours, {unit}"), format!("ours / {other}"), format!("limit, {unit}")]);
         if group.growth {
             head.extend([format!("{other}, {unit} a {part}"), format!("ours, {unit} a {part}")]);
         }
         let mut table = Table::new(group.title, head);
-        for (row, pair) in group.rows.iter().zip(pairs) {
-            table.add(line(group, row, pair));
+        for (row, costs) in group.rows.iter().zip(costs) {
+            table.add(line(group, row, costs));
         }
         table.print();
     }

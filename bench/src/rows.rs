@@ -4,6 +4,7 @@
 use oracle::every;
 
 use crate::images::{self, Phone};
+use crate::limits::{self, Find, Limit};
 
 #[derive(Clone, Copy)]
 pub enum Call {
@@ -22,6 +23,14 @@ pub struct Row {
     pub call: Call,
     /// The image, or the lines.
     pub input: Vec<u8>,
+    /// None where no least work is plain to see.
+    pub limit: Option<Limit>,
+}
+
+impl Row {
+    pub(crate) fn new(name: &'static str, call: Call, input: Vec<u8>, limit: Find) -> Row {
+        Row { name, call, limit: limit(&input), input }
+    }
 }
 
 /// The rows of a table. In one of growth, rows of the same name follow each other, each with ten times more of what the name says.
@@ -36,6 +45,7 @@ pub struct Group {
 pub fn groups() -> Vec<Group> {
     vec![
         Group { title: "Extraction", other: "Rust", growth: false, rows: extraction() },
+        Group { title: "Extraction of short extents", other: "Rust", growth: false, rows: short_extents() },
         Group { title: "`is_heif`", other: "Rust", growth: false, rows: heif() },
         Group { title: "Extraction as the image grows tenfold", other: "Rust", growth: true, rows: extraction_growth() },
         Group { title: "`is_heif` as the image grows tenfold", other: "Rust", growth: true, rows: heif_growth() },
@@ -49,36 +59,56 @@ pub(crate) const PHONE: Phone = Phone { exif: 2_000, mdat: 3_000_000, mdat_first
 const LONGEST: usize = 65_535;
 
 pub fn extraction() -> Vec<Row> {
-    let row = |name, input| Row { name, call: Call::Exif, input };
+    let row = |name, input, limit| Row::new(name, Call::Exif, input, limit);
     vec![
-        row("H", every::h()),
-        row("phone, `mdat` of 3 MB before `meta`", PHONE.image()),
-        row("phone, `mdat` of 3 MB after `meta`", Phone { mdat_first: false, ..PHONE }.image()),
-        row("phone with names, `mdat` of 3 MB before `meta`", Phone { names: true, ..PHONE }.image()),
-        row("phone with names, `mdat` of 3 MB after `meta`", Phone { names: true, mdat_first: false, ..PHONE }.image()),
-        row("phone, 30 bytes of Exif, `mdat` of 3 MB", Phone { exif: 30, ..PHONE }.image()),
-        row("phone, 30 bytes of Exif, `mdat` of 30 bytes", Phone { exif: 30, mdat: 30, ..PHONE }.image()),
-        row("block of 65,531 bytes, 1 extent, image", images::in_image(LONGEST, 1)),
-        row("block of 65,531 bytes, 1 extent, `idat`", images::in_idat(LONGEST, 1)),
-        row("block of 65,531 bytes, 1,000 extents, image", images::in_image(LONGEST, 1_000)),
-        row("block of 65,531 bytes, 1,000 extents, `idat`", images::in_idat(LONGEST, 1_000)),
-        row("10,000 small top-level boxes", images::top_level(10_000)),
-        row("`ftyp` of 10,000 brands", images::brands(10_000)),
-        row("`meta` of 100,000 children", images::children(100_000)),
-        row("`iinf` of 1 MB: boxes of 8 bytes", images::iinf_of_boxes(1_000_000)),
-        row("`iinf` of 1 MB: `infe`", images::iinf_of_infe(1_000_000)),
-        row("`iloc` of 1 MB: other ids", images::iloc_of_entries(1_000_000, false)),
-        row("`iloc` of 1 MB: the wanted id", images::iloc_of_entries(1_000_000, true)),
-        row("`iloc` of 1 MB: other ids, 65,535 extents of no bytes", images::iloc_of_no_bytes(1_000_000, false)),
-        row("`iloc` of 1 KB: the wanted id, 65,535 extents of no bytes", images::iloc_of_no_bytes(1_000, true)),
+        row("H", every::h(), limits::none),
+        row("phone, `mdat` of 3 MB before `meta`", PHONE.image(), limits::none),
+        row("phone, `mdat` of 3 MB after `meta`", Phone { mdat_first: false, ..PHONE }.image(), limits::none),
+        row("phone with names, `mdat` of 3 MB before `meta`", Phone { names: true, ..PHONE }.image(), limits::none),
+        row("phone with names, `mdat` of 3 MB after `meta`", Phone { names: true, mdat_first: false, ..PHONE }.image(), limits::none),
+        row("phone, 30 bytes of Exif, `mdat` of 3 MB", Phone { exif: 30, ..PHONE }.image(), limits::none),
+        row("phone, 30 bytes of Exif, `mdat` of 30 bytes", Phone { exif: 30, mdat: 30, ..PHONE }.image(), limits::none),
+        row("block of 65,531 bytes, 1 extent, image", images::in_image(LONGEST, 1), limits::block),
+        row("block of 65,531 bytes, 1 extent, `idat`", images::in_idat(LONGEST, 1), limits::block),
+        row("block of 65,531 bytes, 1,000 extents, image", images::in_image(LONGEST, 1_000), limits::block),
+        row("block of 65,531 bytes, 1,000 extents, `idat`", images::in_idat(LONGEST, 1_000), limits::block),
+        row("10,000 small top-level boxes", images::top_level(10_000), limits::top_level),
+        row("`ftyp` of 10,000 brands", images::brands(10_000), limits::brands),
+        row("`meta` of 100,000 children", images::children(100_000), limits::children),
+        row("`iinf` of 1 MB: boxes of 8 bytes", images::iinf_of_boxes(1_000_000), limits::items),
+        row("`iinf` of 1 MB: `infe`", images::iinf_of_infe(1_000_000), limits::items),
+        row("`iloc` of 1 MB: other ids", images::iloc_of_entries(1_000_000, false), limits::entries),
+        row("`iloc` of 1 MB: the wanted id", images::iloc_of_entries(1_000_000, true), limits::entries),
+        row("`iloc` of 1 MB: other ids, 65,535 extents of no bytes", images::iloc_of_no_bytes(1_000_000, false), limits::long_entries),
+        row("`iloc` of 1 KB: the wanted id, 65,535 extents of no bytes", images::iloc_of_no_bytes(1_000, true), limits::long_entries),
+    ]
+}
+
+/// Where copying is done in small pieces: the lengths just below a power of two take the most moves. An item has room for 516 extents of 127 bytes.
+fn short_extents() -> Vec<Row> {
+    let row =
+        |name, image: fn(usize, usize) -> Vec<u8>, count, length| Row::new(name, Call::Exif, image(length * count, count), limits::block);
+    let image = images::in_image;
+    let idat = images::in_idat;
+    vec![
+        row("1,000 extents of 7 bytes, image", image, 1_000, 7),
+        row("1,000 extents of 31 bytes, image", image, 1_000, 31),
+        row("1,000 extents of 60 bytes, image", image, 1_000, 60),
+        row("1,000 extents of 63 bytes, image", image, 1_000, 63),
+        row("516 extents of 127 bytes, image", image, 516, 127),
+        row("1,000 extents of 7 bytes, `idat`", idat, 1_000, 7),
+        row("1,000 extents of 31 bytes, `idat`", idat, 1_000, 31),
+        row("1,000 extents of 60 bytes, `idat`", idat, 1_000, 60),
+        row("1,000 extents of 63 bytes, `idat`", idat, 1_000, 63),
+        row("516 extents of 127 bytes, `idat`", idat, 516, 127),
     ]
 }
 
 /// The same images, and one where there is more than one box to walk.
 fn heif() -> Vec<Row> {
-    let mut rows = vec![Row { name: "(an empty call)", call: Call::Empty, input: Vec::new() }];
-    rows.extend(extraction().into_iter().map(|row| Row { call: Call::Heif, ..row }));
-    rows.push(Row { name: "`ftyp` after 10,000 small top-level boxes", call: Call::Heif, input: images::ftyp_last(10_000) });
+    let mut rows = vec![Row::new("(an empty call)", Call::Empty, Vec::new(), limits::none)];
+    rows.extend(extraction().into_iter().map(|row| Row::new(row.name, Call::Heif, row.input, limits::brands)));
+    rows.push(Row::new("`ftyp` after 10,000 small top-level boxes", Call::Heif, images::ftyp_last(10_000), limits::top_level));
     rows
 }
 
@@ -113,31 +143,41 @@ const ITEMS: [usize; 3] = [655, 6_553, 65_530];
 const EXTENTS: [usize; 3] = [100, 1_000, 10_000];
 const MDATS: [usize; 4] = [3_000, 30_000, 300_000, 3_000_000];
 
-pub(crate) fn grown(name: &'static str, call: Call, sizes: &[usize], input: impl Fn(usize) -> Vec<u8>) -> Vec<Row> {
-    sizes.iter().map(|&size| Row { name, call, input: input(size) }).collect()
+pub(crate) fn grown(name: &'static str, call: Call, sizes: &[usize], input: impl Fn(usize) -> Vec<u8>, limit: Find) -> Vec<Row> {
+    sizes.iter().map(|&size| Row::new(name, call, input(size), limit)).collect()
 }
 
 fn extraction_growth() -> Vec<Row> {
     let exif = Call::Exif;
     [
-        grown("phone, `mdat` before `meta`", exif, &MDATS, |mdat| Phone { mdat, ..PHONE }.image()),
-        grown("phone, `mdat` after `meta`", exif, &MDATS, |mdat| Phone { mdat, mdat_first: false, ..PHONE }.image()),
-        grown("item in 1 extent, image", exif, &ITEMS, |length| images::in_image(length, 1)),
-        grown("item in 1 extent, `idat`", exif, &ITEMS, |length| images::in_idat(length, 1)),
-        grown("extents of 6 bytes, image", exif, &EXTENTS, |count| images::in_image(6 * count, count)),
-        grown("extents of 6 bytes, `idat`", exif, &EXTENTS, |count| images::in_idat(6 * count, count)),
-        grown("small top-level boxes", exif, &COUNTS, images::top_level),
-        grown("brands of `ftyp`", exif, &COUNTS, images::brands),
-        grown("children of `meta`", exif, &COUNTS, images::children),
-        grown("`iinf`: boxes of 8 bytes", exif, &LENGTHS, images::iinf_of_boxes),
-        grown("`iinf`: `infe`", exif, &LENGTHS, images::iinf_of_infe),
-        grown("`iloc`: other ids", exif, &LENGTHS, |length| images::iloc_of_entries(length, false)),
-        grown("`iloc`: the wanted id", exif, &LENGTHS, |length| images::iloc_of_entries(length, true)),
-        grown("`iloc`: other ids, 65,535 extents of no bytes", exif, &LENGTHS, |length| images::iloc_of_no_bytes(length, false)),
+        grown("phone, `mdat` before `meta`", exif, &MDATS, |mdat| Phone { mdat, ..PHONE }.image(), limits::none),
+        grown("phone, `mdat` after `meta`", exif, &MDATS, |mdat| Phone { mdat, mdat_first: false, ..PHONE }.image(), limits::none),
+        grown("item in 1 extent, image", exif, &ITEMS, |length| images::in_image(length, 1), limits::block),
+        grown("item in 1 extent, `idat`", exif, &ITEMS, |length| images::in_idat(length, 1), limits::block),
+        grown("extents of 6 bytes, image", exif, &EXTENTS, |count| images::in_image(6 * count, count), limits::block),
+        grown("extents of 6 bytes, `idat`", exif, &EXTENTS, |count| images::in_idat(6 * count, count), limits::block),
+        grown("small top-level boxes", exif, &COUNTS, images::top_level, limits::top_level),
+        grown("brands of `ftyp`", exif, &COUNTS, images::brands, limits::brands),
+        grown("children of `meta`", exif, &COUNTS, images::children, limits::children),
+        grown("`iinf`: boxes of 8 bytes", exif, &LENGTHS, images::iinf_of_boxes, limits::items),
+        grown("`iinf`: `infe`", exif, &LENGTHS, images::iinf_of_infe, limits::items),
+        grown("`iloc`: other ids", exif, &LENGTHS, |length| images::iloc_of_entries(length, false), limits::entries),
+        grown("`iloc`: the wanted id", exif, &LENGTHS, |length| images::iloc_of_entries(length, true), limits::entries),
+        grown(
+            "`iloc`: other ids, 65,535 extents of no bytes",
+            exif,
+            &LENGTHS,
+            |length| images::iloc_of_no_bytes(length, false),
+            limits::long_entries,
+        ),
         // Longer ones would take the Rust seconds.
-        grown("`iloc`: the wanted id, 65,535 extents of no bytes", exif, &[10, 100, 1_000], |length| {
-            images::iloc_of_no_bytes(length, true)
-        }),
+        grown(
+            "`iloc`: the wanted id, 65,535 extents of no bytes",
+            exif,
+            &[10, 100, 1_000],
+            |length| images::iloc_of_no_bytes(length, true),
+            limits::long_entries,
+        ),
     ]
     .into_iter()
     .flatten()
@@ -146,8 +186,8 @@ fn extraction_growth() -> Vec<Row> {
 
 fn heif_growth() -> Vec<Row> {
     [
-        grown("small top-level boxes before `ftyp`", Call::Heif, &COUNTS, images::ftyp_last),
-        grown("brands of `ftyp`", Call::Heif, &COUNTS, images::brands),
+        grown("small top-level boxes before `ftyp`", Call::Heif, &COUNTS, images::ftyp_last, limits::top_level),
+        grown("brands of `ftyp`", Call::Heif, &COUNTS, images::brands, limits::brands),
     ]
     .into_iter()
     .flatten()

@@ -2,6 +2,7 @@
 
 use oracle::dice::Dice;
 
+use crate::limits;
 use crate::rows::{grown, Call, Group, Row};
 
 pub fn groups() -> Vec<Group> {
@@ -15,18 +16,18 @@ const LONGEST: &[u8] = b"answer=0 length=65535\n";
 const SHORTEST: &[u8] = b"answer=1 length=0\n";
 
 pub fn sheet() -> Vec<Row> {
-    let row = |name, input| Row { name, call: Call::Sheet, input };
+    let row = |name, input, limit| Row::new(name, Call::Sheet, input, limit);
     vec![
-        row("no lines", Vec::new()),
-        row("1 line", LONGEST.to_vec()),
-        row("100,000 of the longest lines", LONGEST.repeat(100_000)),
-        row("100,000 of the shortest lines", SHORTEST.repeat(100_000)),
-        row("100,000 lines, all 100 answers in turn", in_turn(100_000)),
-        row("100,000 lines, mixed", mixed(100_000)),
-        row("1,000,000 lines", LONGEST.repeat(1_000_000)),
-        row("1,000,000 lines, the first one empty", [b"\n", &LONGEST.repeat(1_000_000)[..]].concat()),
-        row("22 MB of letters, no newline", vec![b'a'; 22_000_000]),
-        row("2 MB of leading zeros", [b"answer=", &vec![b'0'; 2_000_000][..], b" length=0\n"].concat()),
+        row("no lines", Vec::new(), limits::none),
+        row("1 line", LONGEST.to_vec(), limits::none),
+        row("100,000 of the longest lines", LONGEST.repeat(100_000), limits::lines),
+        row("100,000 of the shortest lines", SHORTEST.repeat(100_000), limits::lines),
+        row("100,000 lines, all 100 answers in turn", in_turn(100_000), limits::lines),
+        row("100,000 lines, mixed", mixed(100_000), limits::lines),
+        row("1,000,000 lines", LONGEST.repeat(1_000_000), limits::lines),
+        row("1,000,000 lines, the first one empty", [b"\n", &LONGEST.repeat(1_000_000)[..]].concat(), limits::none),
+        row("22 MB of letters, no newline", vec![b'a'; 22_000_000], limits::none),
+        row("2 MB of leading zeros", [b"answer=", &vec![b'0'; 2_000_000][..], b" length=0\n"].concat(), limits::none),
     ]
 }
 
@@ -34,7 +35,7 @@ pub fn sheet() -> Vec<Row> {
 const COUNTS: [usize; 4] = [1_000, 10_000, 100_000, 1_000_000];
 
 fn growth() -> Vec<Row> {
-    let lines = |name, line: &[u8]| grown(name, Call::Sheet, &COUNTS, |count| line.repeat(count));
+    let lines = |name, line: &[u8]| grown(name, Call::Sheet, &COUNTS, |count| line.repeat(count), limits::lines);
     [lines("lines of 22 bytes, the longest", LONGEST), lines("lines of 18 bytes, the shortest", SHORTEST)].into_iter().flatten().collect()
 }
 

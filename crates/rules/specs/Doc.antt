@@ -1,4 +1,5 @@
--- Document 01, "HEIF boxes to Exif block", as functions that compute over an image that is a list of bytes. The modules stand in its order.
+-- Document 01, "HEIF boxes to Exif block", whose rules docs/RULES.md tells, as functions that compute over an image that is a list of bytes. The
+-- modules stand in its order.
 -- No axiom and no premise is used.
 
 -- What its sentences are made of.

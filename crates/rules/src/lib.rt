@@ -1,1 +1,1 @@
-// Document 01 as definitions: they are in specs/, and there is no code here.
+// Document 01, whose rules docs/RULES.md tells, as definitions: they are in specs/, and there is no code here.
