@@ -16,6 +16,8 @@ pub mod Stops
 pub mod Fold
 pub mod Last
 pub mod Lies
+-- what holds of every thing that a walk met
+pub mod Walked
 -- an entry's extents, and the entry that is chosen
 pub mod Extents
 pub mod Entries
@@ -23,6 +25,8 @@ pub mod Entries
 pub mod Places
 pub mod Totals
 pub mod Over
+-- every value that the Rust puts into a `usize` fits there
+pub mod Addressed
 -- the join over bytes and over positions, the answer by the parts that each function is lent, the longest block
 pub mod Gather
 pub mod Lent
