@@ -37,7 +37,9 @@ extern "C" {
  *   6  meta before ftyp           15  external data reference    24  over 65,535 bytes
  *   7  no known brand             16  no iloc                    25  under 4 bytes
  *   8  meta version               17  no matching entry          26  header offset
- *   9  infe version               18  invalid offset             27  beyond the address space (not here)
+ *   9  infe version               18  invalid offset
+ *
+ * 27 is retired: no image gives it.
  */
 uint64_t coinbarrow_exif(const uint8_t *image, size_t image_len, uint8_t *out, size_t out_len);
 
@@ -50,7 +52,7 @@ uint64_t coinbarrow_exif(const uint8_t *image, size_t image_len, uint8_t *out, s
  *  32  no FF where a marker must be
  *  33  length under 2
  *
- * What is neither gets the answer of `coinbarrow_exif`. 29 to 31 are never given.
+ * What is neither gets the answer of `coinbarrow_exif`. 27 and 29 to 31 are never given.
  */
 uint64_t coinbarrow_photo(const uint8_t *image, size_t image_len, uint8_t *out, size_t out_len);
 
@@ -70,7 +72,7 @@ bool coinbarrow_is_heif(const uint8_t *bytes, size_t bytes_len);
 #define COINBARROW_LONGEST_LISTED 65536
 
 /* No text is longer than this: an output of so many bytes always gets all of it. */
-#define COINBARROW_LONGEST_TEXT 458772
+#define COINBARROW_LONGEST_TEXT 458771
 
 /*
  * The boxes of `image` as text, a line a box. The text goes to the front of `out`, as much of it as there is room for. It has no zero byte at its

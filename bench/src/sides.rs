@@ -19,7 +19,7 @@ extern "C" {
 pub const ROOM: usize = 65_536;
 
 /// Room for every text of the listing.
-pub const TEXT_ROOM: usize = 458_772;
+pub const TEXT_ROOM: usize = 458_771;
 
 /// What the output holds before a call that is checked.
 const BEFORE: u8 = 0xa5;

@@ -18,7 +18,7 @@ pub mod tables;
 
 pub use error::Error;
 
-// Document 01 takes the Rust on a 64-bit target: with a narrower `usize` it gives 27 for images that have another answer here.
+// Document 01 takes the Rust on a 64-bit target: with a narrower `usize` it refuses images, as too large, that have another answer here.
 const _: () = assert!(usize::BITS == 64, "the comparison is with the Rust on a 64-bit target");
 
 /// What error.rs asks of the crate's `Exif`, which reads blocks and is no part of this.

@@ -3,7 +3,7 @@
 use crate::Error;
 
 /// An unexpected end is a message too: isobmff.rs makes "Broken HEIF file" of it.
-const MESSAGES: [(&str, u32); 29] = [
+const MESSAGES: [(&str, u32); 25] = [
     ("Broken HEIF file", 2),
     ("Box too small", 3),
     ("Invalid box size", 4),
@@ -29,17 +29,22 @@ const MESSAGES: [(&str, u32); 29] = [
     ("Exif data too large", 24),
     ("ExifDataBlock too small", 25),
     ("Invalid Exif header offset", 26),
-    ("Box is larger than the address space", 27),
-    ("Extent too large", 27),
-    ("Offset too large", 27),
-    ("Length too large", 27),
 ];
 
-/// Stops at an answer that has no number: then the table or the Rust is another one.
+/// What the Rust says of a value that a `usize` can't hold. One of 64 bits holds every value, so 27, which these were, is retired.
+const TOO_LARGE: [&str; 4] = [
+    "Box is larger than the address space",
+    "Extent too large",
+    "Offset too large",
+    "Length too large",
+];
+
+/// Stops at an answer that has no number: then the table or the Rust is another one. Stops at one of TOO_LARGE: then the theorem is wrong.
 pub fn number(error: &Error) -> u32 {
     match error {
         Error::NotFound("HEIF") => 1,
         Error::InvalidFormat(message) | Error::NotSupported(message) => {
+            assert!(!TOO_LARGE.contains(message), "the Rust said {message:?}, which no image can make it say where `usize` has 64 bits");
             let found = MESSAGES.iter().find(|(known, _)| known == message);
             found.unwrap_or_else(|| panic!("the Rust said {message:?}, which has no number")).1
         }

@@ -47,7 +47,7 @@ fn is_heif(bytes: &[u8]) -> bool {
 }
 
 /// Room for the text of every image.
-const LONGEST_TEXT: usize = 458_772;
+const LONGEST_TEXT: usize = 458_771;
 
 /// The boxes of an image as text, a line a box.
 fn list(image: &[u8]) -> String {

@@ -41,7 +41,6 @@ number r.UnknownMethod = 23
 number r.TooLarge = 24
 number r.UnderFour = 25
 number r.HeaderOffset = 26
-number r.AddressSpace = 27
 number r.NoRoom = 28
 number r.ListingTooLong = 29
 number r.NotJpeg = 31

@@ -55,7 +55,6 @@ refusals =
     ∷ r.TooLarge
     ∷ r.UnderFour
     ∷ r.HeaderOffset
-    ∷ r.AddressSpace
     ∷ r.NoRoom
     ∷ r.ListingTooLong
     ∷ r.NotJpeg
@@ -99,7 +98,6 @@ refusal-back r.UnknownMethod = refl
 refusal-back r.TooLarge = refl
 refusal-back r.UnderFour = refl
 refusal-back r.HeaderOffset = refl
-refusal-back r.AddressSpace = refl
 refusal-back r.NoRoom = refl
 refusal-back r.ListingTooLong = refl
 refusal-back r.NotJpeg = refl

@@ -7,9 +7,6 @@ ghost use Rattle.boxes.specs.Told.{announces, child, fileBox};
 use crate::header::Header;
 use crate::refusal::Refusal;
 
-// The largest `usize`. On this target no size exceeds it, so 27 is never given; a target of fewer bits has a smaller one.
-pub const ADDRESS_MAX: u64 = 0xffff_ffff_ffff_ffff;
-
 // A box inside another: its type and where its body is, or why there is none.
 pub enum Child {
     Whole { kind: u32, from: usize, to: usize },
@@ -25,9 +22,6 @@ pub fn child_box(s: &[u8], header: Header) -> Child
         Header::Cut => Child::Refused(Refusal::BoxTooSmall),
         Header::Invalid => Child::Refused(Refusal::InvalidBoxSize),
         Header::Read { kind, from, size } => {
-            if ADDRESS_MAX < size {
-                return Child::Refused(Refusal::AddressSpace);
-            }
             if s.len() < from || size > (s.len() - from) as u64 {
                 return Child::Refused(Refusal::BoxTooSmall);
             }

@@ -11,7 +11,6 @@ pub use field::uint16;
 pub use field::uint32;
 pub use field::uint64;
 pub use header::Header;
-pub use level::ADDRESS_MAX;
 pub use level::Child;
 pub use level::FTYP;
 pub use level::FileBox;

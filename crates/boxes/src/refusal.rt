@@ -1,5 +1,5 @@
-// The refusals of extraction and of the listing, and their numbers: 1 to 29 are document 01's, 31 to 33 are added by request three of document 02, for
-// JPEG. Those of a block are in crates/tiff.
+// The refusals of extraction and of the listing, and their numbers: those up to 29 are document 01's, 31 to 33 are added by request three of document 02,
+// for JPEG. Those of a block are in crates/tiff. The gap below 28 is a number that is retired, and no number is given anew (docs/NUMBERS.md).
 ghost use mathlib.Core.Path.{_≡_};
 ghost use Rattle.boxes.specs.Told.{number};
 
@@ -31,7 +31,6 @@ pub enum Refusal {
     TooLarge = 24,
     UnderFour = 25,
     HeaderOffset = 26,
-    AddressSpace = 27,
     NoRoom = 28,
     ListingTooLong = 29,
     NotJpeg = 31,

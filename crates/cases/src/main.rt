@@ -6,8 +6,8 @@ use listing::LONGEST_TEXT;
 
 const MOST_IMAGE: usize = 1048576;
 
-// The longest listing and one byte behind it.
-const MOST_OUT: usize = LONGEST_TEXT + 1;
+// The longest listing and two bytes behind it.
+const MOST_OUT: usize = LONGEST_TEXT + 2;
 
 // Two digits for each byte of the output, and the words around them.
 const MOST_LINE: usize = 2 * MOST_OUT + 64;

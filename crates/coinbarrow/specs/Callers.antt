@@ -18,7 +18,7 @@ use Rattle.rules.specs.Laws.ListingLength.{listing-length}
 use Rattle.jpeg_rules.specs.Doc.Block.{isJpeg, jpegAnswer}
 use Rattle.jpeg_rules.specs.Doc.Either.{eitherAnswer}
 use Rattle.jpeg_rules.specs.Laws.Asked.{as-heif, as-jpeg, as-neither}
-use Rattle.jpeg_rules.specs.Demands.One.{InStartedTable, started-number, either-length, either-number, either-never-31, either-room}
+use Rattle.jpeg_rules.specs.Demands.One.{InStartedTable, started-number, either-length, either-number, either-between, either-room}
 use Rattle.sheet_rules.specs.Doc.Sheet.{sheet}
 use Rattle.sheet_rules.specs.Laws.SheetLength.{sheet-length}
 use Rattle.listing.specs.Whole.{too-long}
@@ -41,10 +41,12 @@ module _ (d : Answer) (r : ℕ) (after : List ℕ) (meets : unpacked r after ≡
 pub packed-one : (d : Answer) (r s : ℕ) (after after′ : List ℕ) → unpacked r after ≡ d → unpacked s after′ ≡ d → (r ≡ s) × (after ≡ after′)
 packed-one d r s after after′ e f = (is-sum d r after e ∙ sym (is-sum d s after′ f), ap (λ (a : Answer). a .output) (e ∙ sym f))
 
--- Of HEIF: the upper half is at most 28, the lower at most 65,531; and an output of 65,531 bytes always has room.
+-- Of HEIF: the upper half is at most 26, or 28; the lower at most 65,531; and an output of 65,531 bytes always has room.
 module _ (img out : List ℕ) (r : ℕ) (after : List ℕ) (meets : unpacked r after ≡ answer img out) where
-  pub upper-limit : r / 2 ^ 32 ≤ 28
-  upper-limit = omega (arith, upper (answer img out) r after meets, number-limit img out)
+  pub upper-limit : 26 < r / 2 ^ 32 → r / 2 ^ 32 ≡ 28
+  upper-limit h =
+      let u = upper (answer img out) r after meets in
+      u ∙ number-limit img out (omega arith)
 
   pub lower-limit : r % 2 ^ 32 ≤ 65531
   lower-limit = omega (arith, lower (answer img out) r after meets, length-limit img out)
@@ -52,13 +54,15 @@ module _ (img out : List ℕ) (r : ℕ) (after : List ℕ) (meets : unpacked r a
   pub enough-room : 65531 ≤ length out → r / 2 ^ 32 ≡ 28 → ⊥
   enough-room h e = always-room img out h (omega (arith, upper (answer img out) r after meets))
 
--- Of HEIF or JPEG: the upper half is at most 33, and never 31; the rest is the same, of an image that is made of bytes.
+-- Of HEIF or JPEG: the upper half is at most 33, and none from 27 to 31 but 28; the rest is the same, of an image that is made of bytes.
 module _ (img out : List ℕ) (r : ℕ) (after : List ℕ) (meets : unpacked r after ≡ eitherAnswer img out) where
   pub photo-upper-limit : r / 2 ^ 32 ≤ 33
   photo-upper-limit = omega (arith, upper (eitherAnswer img out) r after meets, either-number img out)
 
-  pub photo-upper-never-31 : r / 2 ^ 32 ≡ 31 → ⊥
-  photo-upper-never-31 e = either-never-31 img out (sym (upper (eitherAnswer img out) r after meets) ∙ e)
+  pub photo-upper-between : 26 < r / 2 ^ 32 → r / 2 ^ 32 < 32 → r / 2 ^ 32 ≡ 28
+  photo-upper-between h k =
+      let u = upper (eitherAnswer img out) r after meets in
+      u ∙ either-between img out (omega arith) (omega arith)
 
   pub photo-lower-limit : Bytes img → r % 2 ^ 32 ≤ 65531
   photo-lower-limit b = omega (arith, lower (eitherAnswer img out) r after meets, either-length img out b)
@@ -97,10 +101,10 @@ module _ (text out : List ℕ) (r : ℕ) (after : List ℕ) (meets : (r ≡ leng
   pub text-limit : (most : ℕ) → length text ≤ most → (r ≤ most) × (most ≤ length out → after ≡ text ++ drop r out)
   text-limit most l = (omega (arith, meets .0), λ h. text-whole (omega (arith, meets .0)))
 
--- No listing is longer than 458,772 bytes: an output of so many holds every one.
+-- No listing is longer than 458,771 bytes: an output of so many holds every one.
 pub listing-limit : (img out : List ℕ) (r : ℕ) (after : List ℕ) → (r ≡ length (listing img)) × (after ≡ printed (listing img) out)
-    → (r ≤ 458772) × (458772 ≤ length out → after ≡ listing img ++ drop r out)
-listing-limit img out r after meets = text-limit (listing img) out r after meets 458772 (listing-length img)
+    → (r ≤ 458771) × (458771 ≤ length out → after ≡ listing img ++ drop r out)
+listing-limit img out r after meets = text-limit (listing img) out r after meets 458771 (listing-length img)
 
 -- That of an image that is longer than 65,536 bytes is this line.
 pub text-too-long : (img : List ℕ) → 65536 < length img → listing img ≡ ascii "end=65536 answer=29" ++ newline

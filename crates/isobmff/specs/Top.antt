@@ -2,10 +2,10 @@
 use mathlib.Core.Path.{_≡_, refl, sym, ap, _∙_}
 use mathlib.Core.Bool.{Bool, true, false, or-true, or-false, or-assoc, _||_}
 use mathlib.Core.List.{List, [], _∷_}
-use Prim.Native.Nat.{ℕ, _+_, _-_, _^_, _≤_, _<_}
+use Prim.Native.Nat.{ℕ, _+_, _-_, _≤_, _<_}
 use native.Mathlib.Omega.{arith}
 use lib.ListN.{length}
-use borrow.Author.Tests.{le-leb, lt-leb, lt-ltb, le-ltb, eq-eqb, ne-eqb, eqb-true}
+use borrow.Author.Tests.{le-leb, lt-leb, eq-eqb, ne-eqb, eqb-true}
 use Rattle.rules.specs.Doc.Outcomes.{if_then_else_, Outcome, fine, refused, _>>=_, require}
 use Rattle.rules.specs.Doc.Lists.{any}
 use Rattle.rules.specs.Doc.Bytes.{part, Span, sizeOf, bytesIn}
@@ -56,17 +56,13 @@ openedBody img = opened img >>= λ m. fine (m .body)
 -- ---- A body that must be whole
 
 module _ (n from size : ℕ) where
-  pub to-beyond : 2 ^ 64 ≤ size → refused 27 ≡ wholeTo n from size
+  pub to-cut : n - from < size → refused 2 ≡ wholeTo n from size
   unfolding wholeTo whole
-  to-beyond h = rw (le-ltb (from + size - from) (2 ^ 64) (omega arith))
+  to-cut k = rw (lt-leb (from + size) n (omega arith))
 
-  pub to-cut : size < 2 ^ 64 → n - from < size → refused 2 ≡ wholeTo n from size
+  pub to-whole : from ≤ n → size ≤ n - from → fine (from + size) ≡ wholeTo n from size
   unfolding wholeTo whole
-  to-cut h k = rw (lt-ltb (from + size - from) (2 ^ 64) (omega arith), lt-leb (from + size) n (omega arith))
-
-  pub to-whole : from ≤ n → size < 2 ^ 64 → size ≤ n - from → fine (from + size) ≡ wholeTo n from size
-  unfolding wholeTo whole
-  to-whole l h k = rw (lt-ltb (from + size - from) (2 ^ 64) (omega arith), le-leb (from + size) n (omega arith))
+  to-whole l k = rw (le-leb (from + size) n (omega arith))
 
 -- an end that was given lies in the n bytes
 pub to-inside : (n from size : ℕ) {to : ℕ} → fine to ≡ wholeTo n from size → (from ≤ to) × (to ≤ n)

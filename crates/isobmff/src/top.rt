@@ -4,7 +4,6 @@ ghost use Prim.Native.Nat.{_≤_};
 ghost use lib.ListN.{length};
 ghost use Rattle.isobmff.specs.Told.{bodyOf, nextOf, topOf};
 ghost use Rattle.isobmff.specs.Top.{wholeTo, ftypOver, metaOver, boxOver, openedBody};
-use boxes::ADDRESS_MAX;
 use boxes::FTYP;
 use boxes::FileBox;
 use boxes::META;
@@ -21,9 +20,6 @@ fn read_file_level_box(image: &[u8], from: usize, size: u64) -> Body
     requires { ⌜ from ≤ length (now image) ⌝ }
     ensures { λ r. ⌜ bodyOf r ≡ wholeTo (length (now (image .entry))) from size ⌝ }
 {
-    if ADDRESS_MAX < size {
-        return Body::Refused(Refusal::AddressSpace);
-    }
     if size > (image.len() - from) as u64 {
         return Body::Refused(Refusal::ImageEnds);
     }

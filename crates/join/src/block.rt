@@ -82,7 +82,8 @@ fn extract_chosen<'a>(
             extract_joined(image, idat, iloc, location, out)
         }
         2 => Extracted::Refused(Refusal::ByItemOffset),
-        // 3 to 15: the method is a half-byte.
+        3..=15 => Extracted::Refused(Refusal::UnknownMethod),
+        // The method is a half-byte, so nothing is left.
         _ => Extracted::Refused(Refusal::UnknownMethod),
     }
 }

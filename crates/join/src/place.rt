@@ -8,7 +8,6 @@ ghost use Rattle.rules.specs.Laws.Places.{EndsIn};
 ghost use Rattle.locations.specs.Told.{extentIn};
 ghost use Rattle.join.specs.Told.{placeOf, partBy};
 use crate::minus;
-use boxes::ADDRESS_MAX;
 use boxes::Refusal;
 use locations::Extent;
 
@@ -23,9 +22,6 @@ fn in_image(image_len: usize, base: u64, x: Extent) -> Place
     requires { ⌜ base + x .offset < 2 ^ 64 ⌝ }
     ensures { λ r. ⌜ placeOf r ≡ inImage «image_len» base (extentIn x) ⌝ }
 {
-    if ADDRESS_MAX < x.length {
-        return Place::Refused(Refusal::AddressSpace);
-    }
     let from = (base + x.offset) as usize;
     let size = x.length as usize;
     if size == 0 {
@@ -53,9 +49,6 @@ fn in_idat(idat_len: usize, base: u64, x: Extent) -> Place
         return Place::Refused(Refusal::InvalidLength);
     }
     let end = offset + x.length;
-    if ADDRESS_MAX < end {
-        return Place::Refused(Refusal::AddressSpace);
-    }
     let from = offset as usize;
     let to = end as usize;
     if idat_len < from {

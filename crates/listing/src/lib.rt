@@ -22,7 +22,7 @@ use opening::opening;
 pub const LONGEST: usize = 65536;
 
 // Seven bytes of text for each byte of an image, and the last line: no listing is longer.
-pub const LONGEST_TEXT: usize = 7 * LONGEST + 20;
+pub const LONGEST_TEXT: usize = 7 * LONGEST + 19;
 
 // Boxes at this depth aren't opened.
 const DEEPEST: usize = 8;

@@ -2,10 +2,8 @@
 -- answers as the definitions say is its own contract, and that they say what the Rust does is shown by runs (docs/COMPARISON.md). Three: bytes
 -- that are not consulted have no say.
 -- Of the listing: it goes by the boxes that extraction walks (Listed), and its numbers can be read back (Digits).
--- Of the numbers: no image gives 27 (Retired).
 pub mod One
 pub mod Three
 pub mod Unconsulted
 pub mod Listed
 pub mod Digits
-pub mod Retired

@@ -25,7 +25,7 @@ pub mod Entries
 pub mod Places
 pub mod Totals
 pub mod Over
--- every value that the Rust puts into a `usize` fits there
+-- every value that the Rust asks about before it makes a `usize` of it is below 2^64
 pub mod Addressed
 -- the join over bytes and over positions, the answer by the parts that each function is lent, the longest block
 pub mod Gather

@@ -2,7 +2,7 @@
 -- longer than the buffer: the theorems for every format, said of these. How large length and number can be. And that a block stands behind
 -- `Exif` and two zero bytes in the E1 segment that ended the search.
 use mathlib.Core.Path.{_≡_, refl, sym}
-use Prim.Native.Nat.{ℕ, _≤_}
+use Prim.Native.Nat.{ℕ, _≤_, _<_}
 use native.Mathlib.Nat.{le-trans}
 use native.Mathlib.Omega.{arith}
 use mathlib.Core.Bool.{Bool, true, false}
@@ -24,7 +24,7 @@ use Rattle.rules.specs.Demands.One.{Longer, Written}
 use Rattle.jpeg_rules.specs.Doc.Segments.{Segment, isExif, segments}
 use Rattle.jpeg_rules.specs.Doc.Block.{isJpeg, behindName, foundIn, jpegBlock, jpegAnswer}
 use Rattle.jpeg_rules.specs.Doc.Either.{eitherBlock, eitherAnswer}
-use Rattle.jpeg_rules.specs.Laws.Refusals.{InSearchTable, jpeg-most, jpeg-early, started-numbered, either-early, either-most, either-not-31}
+use Rattle.jpeg_rules.specs.Laws.Refusals.{InSearchTable, jpeg-most, jpeg-early, started-numbered, either-early, either-most, either-apart}
 use Rattle.jpeg_rules.specs.Laws.Limit.{jpeg-limit}
 use Rattle.jpeg_rules.specs.Laws.Stopped.{found-behind}
 
@@ -109,6 +109,8 @@ module _ (img out : List ℕ) where
   pub either-number : eitherAnswer img out .number ≤ 33
   either-number = every.number-within img out 33 (omega arith) (eitherBlock img) (either-most img)
 
-  -- 31 is the JPEG reader's alone: what doesn't start FF D8 is asked of the HEIF reader.
-  pub either-never-31 : eitherAnswer img out .number ≡ 31 → ⊥
-  either-never-31 e = every.never img out 31 (λ z. omega arith) (λ z. omega arith) (eitherBlock img) (either-not-31 img) e
+  -- From 27 to 31 only 28 is given: 31 is the JPEG reader's alone, as what doesn't start FF D8 is asked of the HEIF reader.
+  pub either-between : 26 < eitherAnswer img out .number → eitherAnswer img out .number < 32 → eitherAnswer img out .number ≡ 28
+  either-between =
+      every.number-in img out (λ n. 26 < n → n < 32 → n ≡ 28) (λ h k. absurd (omega arith)) (λ h k. refl) (eitherBlock img)
+      (within-larger (λ n p h k. absurd (p h k)) (eitherBlock img) (either-apart img))

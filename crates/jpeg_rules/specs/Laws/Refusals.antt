@@ -1,7 +1,7 @@
 -- Every step before the room refuses with a number of request three: 31 for the start, 1, 2, 32 or 33 for the search. Through the reader above both
 -- formats, with one of the search or of HEIF's.
 use mathlib.Core.Path.{_≡_, refl}
-use Prim.Native.Nat.{ℕ, _+_, _≤_}
+use Prim.Native.Nat.{ℕ, _+_, _≤_, _<_}
 use native.Mathlib.Omega.{arith}
 use mathlib.Core.Bool.{Bool, true, false, _||_}
 use mathlib.Core.Logic.{_⊎_, inl, inr, ⊎-elim}
@@ -91,15 +91,19 @@ pub started-numbered : (img : List ℕ) → isJpeg img ≡ true → SearchNumber
 unfolding jpegBlock
 started-numbered img e = rw e (row _ _ (search-numbered img) (λ p. went))
 
--- none of the search is above 33
-search-most : (n : ℕ) → InSearchTable n → n ≤ 33
-search-most n p = go (eqb n 1) (eqb n 2) (eqb n 32) refl refl refl p
+-- those of the search are at most 2, or 32 or 33
+search-where : (n : ℕ) → InSearchTable n → (n ≤ 2) ⊎ ((32 ≤ n) × (n ≤ 33))
+search-where n p = go (eqb n 1) (eqb n 2) (eqb n 32) refl refl refl p
   where
-    go : (a b c : Bool) → eqb n 1 ≡ a → eqb n 2 ≡ b → eqb n 32 ≡ c → T (a || (b || (c || eqb n 33))) → n ≤ 33
-    go true b c e f g p = omega (arith, eqb-true n 1 e)
-    go false true c e f g p = omega (arith, eqb-true n 2 f)
-    go false false true e f g p = omega (arith, eqb-true n 32 g)
-    go false false false e f g p = omega (arith, eqb→eq n 33 p)
+    go : (a b c : Bool) → eqb n 1 ≡ a → eqb n 2 ≡ b → eqb n 32 ≡ c → T (a || (b || (c || eqb n 33))) → (n ≤ 2) ⊎ ((32 ≤ n) × (n ≤ 33))
+    go true b c e f g p = inl (omega (arith, eqb-true n 1 e))
+    go false true c e f g p = inl (omega (arith, eqb-true n 2 f))
+    go false false true e f g p = inr (omega (arith, eqb-true n 32 g), omega (arith, eqb-true n 32 g))
+    go false false false e f g p = inr (omega (arith, eqb→eq n 33 p), omega (arith, eqb→eq n 33 p))
+
+-- so none is above 33
+search-most : (n : ℕ) → InSearchTable n → n ≤ 33
+search-most n p = ⊎-elim (λ h. omega arith) (λ h. h .1) (search-where n p)
 
 pub jpeg-most : (img : List ℕ) → Within (λ n. n ≤ 33) (jpegBlock img)
 jpeg-most img = within-larger (λ n p. ⊎-elim (λ e. omega arith) (search-most n) p) (jpegBlock img) (jpeg-numbered img)
@@ -127,15 +131,16 @@ either-numbered img =
 pub either-early : (img : List ℕ) → Early (eitherBlock img)
 either-early img = within-larger (λ n p. ⊎-elim (in-table-early n) (search-early n) p) (eitherBlock img) (either-numbered img)
 
--- none is above 33, and none is 31
+-- none is above 33, and none is from 27 to 31
 table-most : (n : ℕ) → InEitherTable n → n ≤ 33
 table-most n p = ⊎-elim (λ h. omega (arith, in-table-most n h)) (search-most n) p
 
-not-31 : (n : ℕ) → InEitherTable n → n ≡ 31 → ⊥
-not-31 n p e = ⊎-elim (λ h. omega (arith, in-table-most n h)) (λ s. rw e at s) p
+table-apart : (n : ℕ) → InEitherTable n → 26 < n → n < 32 → ⊥
+table-apart n p h k =
+    ⊎-elim (λ q. omega (arith, in-table-most n q)) (λ q. ⊎-elim (λ l. omega arith) (λ l. omega (arith, l .0)) (search-where n q)) p
 
 pub either-most : (img : List ℕ) → Within (λ n. n ≤ 33) (eitherBlock img)
 either-most img = within-larger table-most (eitherBlock img) (either-numbered img)
 
-pub either-not-31 : (img : List ℕ) → Within (λ n. n ≡ 31 → ⊥) (eitherBlock img)
-either-not-31 img = within-larger not-31 (eitherBlock img) (either-numbered img)
+pub either-apart : (img : List ℕ) → Within (λ n. 26 < n → n < 32 → ⊥) (eitherBlock img)
+either-apart img = within-larger table-apart (eitherBlock img) (either-numbered img)

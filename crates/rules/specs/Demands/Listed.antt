@@ -6,7 +6,7 @@
 -- into boxes that extraction skips, and behind the last box that an `iinf` counts. Without such a fault it gets there (`listed-to-children`);
 -- `beside` and `nested` are files of 40 bytes that have one. Nothing is said of an image that extraction refuses on the way.
 use mathlib.Core.Path.{_≡_, refl, sym, _∙_, subst}
-use Prim.Native.Nat.{ℕ, suc, _+_, _^_, _≤_, _<_}
+use Prim.Native.Nat.{ℕ, suc, _+_, _≤_}
 use native.Mathlib.Omega.{arith}
 use mathlib.Core.Logic.{_⊎_, inl, inr}
 use mathlib.Core.Option.{some}
@@ -40,10 +40,10 @@ use Rattle.rules.specs.Cases.{line as bytes}
 -- ---- The top level
 
 -- The listing begins with the boxes that extraction walks at the top level, up to and with `meta`. None of them is itself a fault.
-pub top-listed : (levels : ℕ) (img : List ℕ) (m : Box) → length img < 2 ^ 64 → opened img ≡ fine m
+pub top-listed : (levels : ℕ) (img : List ℕ) (m : Box) → opened img ≡ fine m
     → listRun levels img 0 ≡ (rowListing (depthOver levels) (openBox levels img) (top img .list) then listRun levels img (m .body .to))
-top-listed levels img m h e =
-    let r = row-whole topLevel img h 0 (top img .list) (m .body .to) (top-row img m e .0) (opened-lies img m e .inner) in
+top-listed levels img m e =
+    let r = row-whole topLevel img 0 (top img .list) (m .body .to) (top-row img m e .0) (opened-lies img m e .inner) in
     row-listed levels img 0 (top img .list) (m .body .to) (r .1)
 
 -- ---- The children of `meta`

@@ -113,10 +113,6 @@ module _ (img out : List ℕ) where
   pub number-within : (most : ℕ) → 28 ≤ most → (b : Outcome (List ℕ)) → Within (λ n. n ≤ most) b → answerBy b img out .number ≤ most
   number-within most h b p = number-in (λ n. n ≤ most) (omega arith) h b p
 
-  -- A number that neither success nor the room has, and that is not given before the room, is not given.
-  pub never : (k : ℕ) → (0 ≡ k → ⊥) → (28 ≡ k → ⊥) → (b : Outcome (List ℕ)) → Within (λ n. n ≡ k → ⊥) b → answerBy b img out .number ≡ k → ⊥
-  never k z r b p = number-in (λ n. n ≡ k → ⊥) z r b p
-
   -- A buffer so long has room for every block.
   pub enough-room : (most : ℕ) (b : Outcome (List ℕ)) → Early b → ((ps : List ℕ) → b ≡ fine ps → length ps ≤ most)
       → most ≤ length out → answerBy b img out .number ≡ 28 → ⊥
@@ -134,6 +130,8 @@ module _ (img out : List ℕ) where
   pub always-room : 65531 ≤ length out → answer img out .number ≡ 28 → ⊥
   always-room h e = enough-room img out 65531 (block img) (block-early img) (λ ps e. block-limit img e) h e
 
-  -- No number is above 28.
-  pub number-limit : answer img out .number ≤ 28
-  number-limit = number-within img out 28 (omega arith) (block img) (within-larger (λ n p. omega (arith, in-table-most n p)) (block img) (block-numbered img))
+  -- A number above 26 is 28: 27 is retired, and none is higher.
+  pub number-limit : 26 < answer img out .number → answer img out .number ≡ 28
+  number-limit =
+      number-in img out (λ n. 26 < n → n ≡ 28) (λ h. absurd (omega arith)) (λ h. refl) (block img)
+      (within-larger (λ n p h. absurd (omega (arith, in-table-most n p))) (block img) (block-numbered img))

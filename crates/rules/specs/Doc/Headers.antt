@@ -90,15 +90,9 @@ isKind k kind = eqb kind k
 abbrev pub is : ℕ → Box → Bool
 is k b = isKind k (b .kind)
 
--- 27 is given when a size or place exceeds the target's `usize`, which has 64 bits.
-abbrev pub addressable : ℕ → Bool
-addressable n = ltb n (2 ^ 64)
-
--- A body that must fit into n bytes: 27 first, then k where it doesn't.
+-- A body that must fit into n bytes, else k.
 unfoldable pub whole : ℕ → ℕ → Box → Outcome (Unit {0})
-whole k n b = do
-  _ ← require (addressable (sizeOf (b .body))) 27
-  require (leb (b .body .to) n) k
+whole k n b = require (leb (b .body .to) n) k
 
 -- Top level: every box but `ftyp` and `meta` is skipped, even past the image's end; a body of 2^63 or more is 5.
 unfoldable pub skips : Box → Outcome (Unit {0})

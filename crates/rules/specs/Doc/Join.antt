@@ -9,7 +9,7 @@ use Rattle.rules.specs.Doc.Outcomes.{if_then_else_, Outcome, fine, refus
 use Rattle.rules.specs.Doc.Lists.{each}
 use Rattle.rules.specs.Doc.Bytes.{positions, Span, sizeOf, bytesIn}
 use Rattle.rules.specs.Doc.Walks.{ended, cutAt, refusedAt, Walk, bare, walked, outcome}
-use Rattle.rules.specs.Doc.Headers.{Box, addressable}
+use Rattle.rules.specs.Doc.Headers.{Box}
 use Rattle.rules.specs.Doc.Meta.{opened}
 use Rattle.rules.specs.Doc.Children.{Kept, kept}
 use Rattle.rules.specs.Doc.Iloc.{Entry, Extent, extents, chosen}
@@ -62,19 +62,17 @@ sourceOf n store method = byMethod (record { from = 0; to = n }) store method
 unfoldable pub reach : ℕ → ℕ → Extent → Span
 reach n base x = record { from = base + x .offset; to = if eqb (x .length) 0 then n else base + x .offset + x .length }
 
--- Method 0: a nonzero length not wholly inside the image is 2; before that 27, for the length.
+-- Method 0: a nonzero length not wholly inside the image is 2.
 unfoldable pub inImage : ℕ → ℕ → Extent → Outcome Span
 inImage n base x = do
-  _ ← require (addressable (x .length)) 27
   _ ← require (leb (reach n base x .to) n) 2
   fine (reach n base x)
 
--- Method 1: plus length beyond 64 bits is 19; then 27, for offset and end at once, as the end is never below the offset; a part not inside
--- `idat` is 20. With length 0 an offset past the end is 20, and exactly at the end gives nothing.
+-- Method 1: plus length beyond 64 bits is 19; a part not inside `idat` is 20. With length 0 an offset past the end is 20, and exactly at the end gives
+-- nothing.
 unfoldable pub inIdat : ℕ → ℕ → Extent → Outcome Span
 inIdat n base x = do
   _ ← require (ltb (base + x .offset + x .length) (2 ^ 64)) 19
-  _ ← require (addressable (base + x .offset + x .length)) 27
   _ ← require (leb (base + x .offset) n && leb (reach n base x .to) n) 20
   fine (reach n base x)
 

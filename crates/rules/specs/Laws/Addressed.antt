@@ -6,7 +6,8 @@
 --   parse_meta, method 1   "Offset too large"                        base plus offset, which 18 was asked of        offset-small
 --   parse_meta, method 1   "Length too large"                        that plus the length, which 19 was asked of    end-small
 --
--- A size or a length stands in at most eight bytes (number-small), or is what is left of the bytes. So each value is below 2^64.
+-- A size or a length stands in at most eight bytes (number-small), or is what is left of the bytes. A sum was held against 64 bits by 18 or 19. So each
+-- value is below 2^64.
 use mathlib.Core.Path.{_≡_, refl, subst}
 use Prim.Native.Nat.{ℕ, suc, _+_, _^_, _≤_, _<_}
 use native.Mathlib.Omega.{arith}
@@ -37,7 +38,7 @@ pub record Slice (s : List ℕ) : Type 0 where
   pub bytes : Bytes s
   pub small : length s < 2 ^ 64
 
--- ---- A part of a slice
+-- ---- A body is a slice too, so that the laws below hold inside every box
 
 part-bytes : (s : List ℕ) (from n : ℕ) → Bytes s → Bytes (part s from n)
 part-bytes s from n b k =
@@ -108,7 +109,7 @@ module _ (l : Level) (s : List ℕ) (g : Slice s) where
   step-small at none e = tt
   step-small at (some h) e = box-small h (bodySize (length s) h) (body-small s at g e)
 
-  pub level-small : (at : ℕ) → Meets SmallBox (levelStep l s at)
+  level-small : (at : ℕ) → Meets SmallBox (levelStep l s at)
   unfolding levelStep
   level-small at = by-test (Meets SmallBox) (leb (length s) at) (λ e. tt) (λ e. step-small at (headerAt s at) refl)
 

@@ -1,15 +1,14 @@
 -- The boxes of a walk that ended well stand in a row: each is read where the one before it ended. The same at any level.
 use mathlib.Core.Path.{_≡_, refl, sym, subst}
-use Prim.Native.Nat.{ℕ, zero, suc, _+_, _^_, _≤_, _<_}
+use Prim.Native.Nat.{ℕ, zero, suc, _+_, _≤_, _<_}
 use native.Mathlib.Omega.{arith}
 use mathlib.Core.Bool.{Bool, true, false}
 use mathlib.Core.Option.{Option, none, some}
 use mathlib.Core.List.{List, [], _∷_}
 use lib.ListN.{length}
 use lib.Dec.{leb}
-use borrow.Author.Tests.{leb-true, lt-ltb, le-leb}
+use borrow.Author.Tests.{leb-true, le-leb}
 use Rattle.rules.specs.Doc.Outcomes.{if_then_else_, Outcome, fine, refused, _>>=_, given}
-use Rattle.rules.specs.Doc.Bytes.{sizeOf}
 use Rattle.rules.specs.Doc.Walks.{onward, halt, Step, over, cut, met, End, ended, cutAt, refusedAt, stoppedAt, Walk, bare, walked, judged, after, run, outcome}
 use Rattle.rules.specs.Doc.Headers.{Header, headerAt, bodySize, Box, boxWith, whole, announced, boxAt, childAt}
 use Rattle.rules.specs.Doc.Levels.{Level, tested, said, decided, boxStep, levelStep, boxes}
@@ -103,13 +102,13 @@ module _ (l : Level) (s : List ℕ) where
 -- ---- Whole boxes
 
 -- boxes that any level reads in a row, up to a place inside the bytes, are whole boxes
-module _ (l : Level) (s : List ℕ) (small : length s < 2 ^ 64) where
+module _ (l : Level) (s : List ℕ) where
   child-of : (at : ℕ) {b : Box} → fine b ≡ read l s at → b .body .to ≤ length s → fine b ≡ childAt s at
   unfolding announced childAt boxAt whole
   child-of at {b} e h =
       let p = passed (l .cutNumber) (l .fits (length s)) s at e .0 in
       let (x, q, r) = bind-fine (given (headerAt s at) (l .cutNumber)) _ p in
-      rw (there (headerAt s at) (l .cutNumber) q, ← r, whole, lt-ltb (sizeOf (b .body)) (2 ^ 64) (omega arith), le-leb (b .body .to) (length s) h)
+      rw (there (headerAt s at) (l .cutNumber) q, ← r, whole, le-leb (b .body .to) (length s) h)
 
   pub row-whole : (at : ℕ) (bs : List Box) (to : ℕ) → Row (read l s) at bs to → to ≤ length s → (at ≤ to) × Row (childAt s) at bs to
   row-whole at [] to r h = (omega arith, r)

@@ -76,17 +76,13 @@ module _ (n at kind from size : ℕ) where
   abbrev box : Box
   box = boxOf at kind from (from + size)
 
-  pub child-beyond : 2 ^ 64 ≤ size → refused 27 ≡ standing (whole 3 n) (fine box)
+  pub child-cut : n < from + size → refused 3 ≡ standing (whole 3 n) (fine box)
   unfolding whole
-  child-beyond h = rw (whole, le-ltb (from + size - from) (2 ^ 64) (omega arith))
+  child-cut m = rw (whole, lt-leb (from + size) n m)
 
-  pub child-cut : size < 2 ^ 64 → n < from + size → refused 3 ≡ standing (whole 3 n) (fine box)
+  pub child-whole : from + size ≤ n → fine box ≡ standing (whole 3 n) (fine box)
   unfolding whole
-  child-cut h m = rw (whole, lt-ltb (from + size - from) (2 ^ 64) (omega arith), lt-leb (from + size) n m)
-
-  pub child-whole : size < 2 ^ 64 → from + size ≤ n → fine box ≡ standing (whole 3 n) (fine box)
-  unfolding whole
-  child-whole h m = rw (whole, lt-ltb (from + size - from) (2 ^ 64) (omega arith), le-leb (from + size) n m)
+  child-whole m = rw (whole, le-leb (from + size) n m)
 
 -- at the top level
 pub file-opened : (s : List ℕ) (at : ℕ) {b : Box} → fine b ≡ announced 2 s at → (b .kind ≡ ftyp) ⊎ (b .kind ≡ meta) → fine b ≡ fileBoxAt s at

@@ -8,9 +8,9 @@ use mathlib.Core.List.{List}
 use lib.ListN.{length}
 use lib.Dec.{leb, ltb, eqb}
 use borrow.Author.Tests.{ltb-true, ltb-false, leb-true, ne-eqb}
-use Rattle.rules.specs.Doc.Outcomes.{Outcome, fine, _>>=_, require, given}
+use Rattle.rules.specs.Doc.Outcomes.{Outcome, fine, _>>=_, given}
 use Rattle.rules.specs.Doc.Bytes.{numberAt, sizeOf}
-use Rattle.rules.specs.Doc.Headers.{ftyp, meta, Header, headerOf, headerAt, bodySize, Box, boxWith, is, addressable}
+use Rattle.rules.specs.Doc.Headers.{ftyp, meta, Header, headerOf, headerAt, bodySize, Box, boxWith, is}
 use Rattle.rules.specs.Doc.Headers.{whole, skips, announced, boxAt, childAt, fileBoxAt}
 use Rattle.rules.specs.Laws.Rows.{apart, bind-fine, required}
 
@@ -90,9 +90,7 @@ passed cut test s at {b} e =
 -- what must fit does, where it was not refused
 pub whole-fits : (k n : ℕ) (b : Box) → fine tt ≡ whole k n b → b .body .to ≤ n
 unfolding whole
-whole-fits k n b e =
-    let (u, p, q) = bind-fine (require (addressable (sizeOf (b .body))) 27) (λ u. require (leb (b .body .to) n) k) e in
-    leb-true (b .body .to) n (required (leb (b .body .to) n) k q)
+whole-fits k n b e = leb-true (b .body .to) n (required (leb (b .body .to) n) k e)
 
 pub child-inside : (s : List ℕ) (at : ℕ) {b : Box} → fine b ≡ childAt s at → Inside (length s) at b
 unfolding childAt

@@ -101,7 +101,7 @@ idat-lies body k d e f = let i = kept-list body k e in last-lies body idat d (i 
 
 -- ---- The `meta` that is opened
 
-pub stopped-at : (w : End Box) {m : Box} → fine m ≡ stopped w → w ≡ stoppedAt m
+stopped-at : (w : End Box) {m : Box} → fine m ≡ stopped w → w ≡ stoppedAt m
 unfolding stopped
 stopped-at ended h = absurd (apart h)
 stopped-at (cutAt n at) h = absurd (apart h)

@@ -6,16 +6,18 @@ use mathlib.Core.Option.{Option}
 use mathlib.Core.List.{List, _++_}
 use lib.ListN.{length, take, drop, length-append}
 use lib.Seq.{length-take-le, take-all}
-use lib.Dec.{leb, ltb}
+use lib.Dec.{leb, ltb, lit<}
 use borrow.Author.Tests.{ltb-false, leb-false}
 use Rattle.rules.specs.Doc.Outcomes.{Outcome, fine, refused}
 use Rattle.rules.specs.Doc.Bytes.{sizeOf, bytesIn}
+use Rattle.rules.specs.Doc.Text.{decimal}
 use Rattle.rules.specs.Doc.Headers.{Box, childAt}
 use Rattle.rules.specs.Doc.Listing.{lineOf, Listing, finished, fault, line, _then_, behind, opening, listedAt, rowOf, runOf, childrenOf, deepest}
 use Rattle.rules.specs.Doc.Listing.{depthOver, openBox, listRun, frontText, lineText, lastText, textOf, longest, listing, printed}
 use Rattle.rules.specs.Laws.Rows.{by-test}
 use Rattle.rules.specs.Laws.Headers.{Inside, child-inside}
-use Rattle.rules.specs.Laws.Refusals.{version-numbered, child-numbered, refusal-below}
+use Rattle.rules.specs.Laws.Numbered.{Within, with-number}
+use Rattle.rules.specs.Laws.Refusals.{version-numbered, child-numbered}
 use Rattle.rules.specs.Laws.Text.{one-digit, two-digits, five-digits, hex-length}
 use Rattle.rules.specs.Laws.Listing.{by-opening}
 
@@ -28,21 +30,31 @@ line-length levels n at b h i =
     let t = five-digits (sizeOf (b .body)) (omega arith) in
     simp (length-append, hex-length) (omega arith)
 
-last-length : (at k : ℕ) → at ≤ longest → k < 100 → length (lastText at k) ≤ 20
+last-length : (at k digits : ℕ) → at ≤ longest → length (decimal k) ≤ digits → length (lastText at k) ≤ 18 + digits
 unfolding lastText
-last-length at k h j = simp length-append (omega (arith, five-digits at (omega arith), two-digits k j))
+last-length at k digits h j = simp length-append (omega (arith, five-digits at (omega arith)))
+
+-- Of an image that is listed the number is 0, 3 or 4, so it has one digit: a version, a header and a body refuse with no other.
+abbrev Digit : ℕ → Type 0
+Digit k = k < 10
+
+digit-length : (at k : ℕ) → at ≤ longest → Digit k → length (lastText at k) ≤ 19
+digit-length at k h j = last-length at k 1 h (omega (arith, one-digit k j))
+
+refused-digit : {A : Type 0} {k : ℕ} → Within Digit {A = A} (refused k) → Digit k
+refused-digit (with-number p) = p
 
 -- ---- The lines of boxes that lie in `size` bytes
 
--- each takes 8 of them or more, and its line at most 56 bytes of text; the last line takes at most 20
+-- each takes 8 of them or more, and its line at most 56 bytes of text; the last line takes at most 19
 abbrev Short : ℕ → Listing → Type 0
 Short size finished = Unit {0}
-Short size (fault at k) = length (lastText at k) ≤ 20
+Short size (fault at k) = length (lastText at k) ≤ 19
 Short size (line x l) = (8 ≤ size) × (length (lineText x) ≤ 56) × Short (size - 8) l
 
-text-length : (n size : ℕ) (l : Listing) → n ≤ longest → Short size l → length (textOf n l) ≤ 7 * size + 20
+text-length : (n size : ℕ) (l : Listing) → n ≤ longest → Short size l → length (textOf n l) ≤ 7 * size + 19
 unfolding textOf
-text-length n size finished h p = omega (arith, last-length n 0 h (omega arith))
+text-length n size finished h p = omega (arith, digit-length n 0 h (omega arith))
 text-length n size (fault at k) h p = omega arith
 text-length n size (line x l) h (r, e, p) = simp length-append (omega (arith, text-length n (size - 8) l h p))
 
@@ -65,13 +77,13 @@ module _ (b : Box) (h : b .start ≤ longest) (children : ℕ → Listing) (on :
   behind-short : (n : ℕ) → Opened (behind n b)
   unfolding childrenOf behind
   behind-short n =
-      by-test Opened (ltb (sizeOf (b .body)) n) (λ e. last-length (b .start) 3 h (omega arith)) (λ e. on (b .body .from + n) (sizeOf (b .body)) (omega arith))
+      by-test Opened (ltb (sizeOf (b .body)) n) (λ e. digit-length (b .start) 3 h (omega arith)) (λ e. on (b .body .from + n) (sizeOf (b .body)) (omega arith))
 
   opening-short : (s : List ℕ) → Opened (opening s b)
   unfolding childrenOf
   opening-short s =
       by-opening Opened s b behind-short
-      (λ k e. last-length (b .start) k h (omega (arith, refusal-below k (rw (← e) at (version-numbered (bytesIn s (b .body)) 0))))) tt
+      (λ k e. digit-length (b .start) k h (refused-digit (rw (← e) at (version-numbered {Table = Digit} (lit< tt) (bytesIn s (b .body)) 0)))) tt
 
 -- ---- A run of boxes
 
@@ -80,7 +92,7 @@ module _ (levels : ℕ) (s : List ℕ) (h : length s ≤ longest)
   at-short : (at size : ℕ) → at < length s → length s ≤ at + size → (o : Outcome Box) → o ≡ childAt s at
       → (next : ℕ → Listing) → Runs (length s) next → Short size (listedAt (depthOver levels) at o (openBox levels s) next)
   unfolding listedAt
-  at-short at size k g (refused j) e next on = last-length at j (omega arith) (omega (arith, refusal-below j (rw (← e) at (child-numbered s at))))
+  at-short at size k g (refused j) e next on = digit-length at j (omega arith) (refused-digit (rw (← e) at (child-numbered {Table = Digit} (lit< tt) (lit< tt) s at)))
   at-short at size k g (fine b) e next on =
       let i = child-inside s at e in
       let q = b .body .to in
@@ -106,13 +118,13 @@ run-short (suc levels) s h =
 
 -- seven bytes of text for each byte of the image, and the last line
 abbrev pub longestText : ℕ
-longestText = 7 * longest + 20
+longestText = 7 * longest + 19
 
 pub listing-length : (image : List ℕ) → length (listing image) ≤ longestText
 unfolding listing
 listing-length image =
     by-test (λ (text : List ℕ). length text ≤ longestText) (ltb longest (length image))
-    (λ e. omega (arith, last-length longest 29 (omega arith) (omega arith)))
+    (λ e. omega (arith, last-length longest 29 2 (omega arith) (two-digits 29 (omega arith))))
     (λ e. let h = ltb-false longest (length image) e in
     omega (arith, text-length (length image) (length image) (listRun deepest image 0) h (run-short deepest image h 0 (length image) (omega arith))))
 

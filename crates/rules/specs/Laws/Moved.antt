@@ -76,8 +76,7 @@ module _ (k : ℕ) (s : List ℕ) (fits : k ≤ length s) where
   unfolding whole movedBox moved
   whole-moved b =
       let e = follows in
-      let f : k + b .body .to - (k + b .body .from) ≡ b .body .to - b .body .from = omega arith in
-      rw (f, same-test (k + b .body .to) (length s) (b .body .to) left (λ h. omega arith) (λ h. omega arith))
+      rw (same-test (k + b .body .to) (length s) (b .body .to) left (λ h. omega arith) (λ h. omega arith))
 
   size-then : (h : Header) (o : Outcome ℕ)
       → standing (whole 3 (length s)) (o >>= λ size. fine (boxWith (movedHeader k h) size))

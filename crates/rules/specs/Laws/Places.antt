@@ -8,7 +8,6 @@ use borrow.Author.Tests.{lt-ltb, le-ltb, le-leb, lt-leb, eq-eqb, ne-eqb, leb-tru
 use Rattle.rules.specs.Doc.Outcomes.{if_then_else_, Outcome, fine, refused, require}
 use Rattle.rules.specs.Doc.Bytes.{Span}
 use Rattle.rules.specs.Doc.Iloc.{Extent}
-use Rattle.rules.specs.Doc.Headers.{addressable}
 use Rattle.rules.specs.Doc.Join.{reach, inImage, inIdat, lies}
 use Rattle.rules.specs.Laws.Rows.{bind-fine, required}
 
@@ -30,25 +29,21 @@ module _ (n base : ℕ) (x : Extent) where
 
   -- ---- In the image
 
-  pub image-27 : 2 ^ 64 ≤ x .length → refused 27 ≡ inImage n base x
-  unfolding inImage
-  image-27 h = rw (le-ltb (x .length) (2 ^ 64) h)
-
   pub image-open : x .length ≡ 0 → fine (record { from = base + x .offset; to = n }) ≡ inImage n base x
   unfolding inImage reach
-  image-open z = rw (lt-ltb (x .length) (2 ^ 64) (omega arith), eq-eqb (x .length) 0 z, le-leb n n (omega arith))
+  image-open z = rw (eq-eqb (x .length) 0 z, le-leb n n (omega arith))
 
-  module _ (h : x .length < 2 ^ 64) (z : x .length ≡ 0 → ⊥) where
+  module _ (z : x .length ≡ 0 → ⊥) where
     pub image-2 : n < base + x .offset + x .length → refused 2 ≡ inImage n base x
     unfolding inImage reach
-    image-2 k = rw (lt-ltb (x .length) (2 ^ 64) h, ne-eqb (x .length) 0 z, lt-leb (base + x .offset + x .length) n k)
+    image-2 k = rw (ne-eqb (x .length) 0 z, lt-leb (base + x .offset + x .length) n k)
 
     pub image-part : base + x .offset + x .length ≤ n
         → fine (record { from = base + x .offset; to = base + x .offset + x .length }) ≡ inImage n base x
     unfolding inImage reach
-    image-part k = rw (lt-ltb (x .length) (2 ^ 64) h, ne-eqb (x .length) 0 z, le-leb (base + x .offset + x .length) n k)
+    image-part k = rw (ne-eqb (x .length) 0 z, le-leb (base + x .offset + x .length) n k)
 
-  -- ---- In `idat`; on this target 27 doesn't follow where 19 didn't
+  -- ---- In `idat`
 
   abbrev end : ℕ
   end = base + x .offset + x .length
@@ -100,11 +95,9 @@ lies-inside method n base x p e =
 
     go : (t : Bool) → fine p ≡ (if t then inImage n base x else inIdat n base x) → p .to ≤ n
     go true f =
-        let (v, b, f₁) = bind-fine (require (addressable (x .length)) 27) _ f in
-        let (w, c, f₂) = bind-fine (require (leb to n) 2) _ f₁ in
-        inside (required (leb to n) 2 c) f₂
+        let (v, b, f₁) = bind-fine (require (leb to n) 2) _ f in
+        inside (required (leb to n) 2 b) f₁
     go false f =
         let (v, b, f₁) = bind-fine (require (ltb (base + x .offset + x .length) (2 ^ 64)) 19) _ f in
-        let (w, c, f₂) = bind-fine (require (addressable (base + x .offset + x .length)) 27) _ f₁ in
-        let (z, d, f₃) = bind-fine (require (leb (base + x .offset) n && leb to n) 20) _ f₂ in
-        inside (both (leb (base + x .offset) n) (leb to n) (required (leb (base + x .offset) n && leb to n) 20 d)) f₃
+        let (w, c, f₂) = bind-fine (require (leb (base + x .offset) n && leb to n) 20) _ f₁ in
+        inside (both (leb (base + x .offset) n) (leb to n) (required (leb (base + x .offset) n && leb to n) 20 c)) f₂

@@ -1,5 +1,5 @@
--- Every step before the room refuses with a number from 1 to 27. Steps 7 to 10 are gone through over bytes; what holds there holds over positions.
-use mathlib.Core.Path.{_≡_, sym, subst}
+-- Every step before the room refuses with a number from 1 to 26. Steps 7 to 10 are gone through over bytes; what holds there holds over positions.
+use mathlib.Core.Path.{sym, subst}
 use Prim.Native.Nat.{ℕ, _+_, _-_, _/_, _%_, _^_, _≤_}
 use mathlib.Core.Bool.{Bool, _&&_, _||_}
 use mathlib.Core.Option.{Option, none, some}
@@ -9,8 +9,8 @@ use lib.Dec.{T, leb, ltb, eqb, leb→le}
 use Rattle.rules.specs.Doc.Outcomes.{Outcome, fine, refused, _>>=_}
 use Rattle.rules.specs.Doc.Lists.{any, only, lastOf}
 use Rattle.rules.specs.Doc.Bytes.{Span, sizeOf, bytesIn, field, sized, version}
-use Rattle.rules.specs.Doc.Walks.{over, End, ended, cutAt, refusedAt, stoppedAt}
-use Rattle.rules.specs.Doc.Headers.{ftyp, meta, iinf, infe, iloc, Header, headerAt, bodySize, Box, boxWith, isKind, is, addressable, whole, skips, announced, boxAt, childAt}
+use Rattle.rules.specs.Doc.Walks.{End, ended, cutAt, refusedAt, stoppedAt}
+use Rattle.rules.specs.Doc.Headers.{ftyp, meta, iinf, infe, iloc, Header, headerAt, bodySize, Box, boxWith, isKind, is, whole, skips, announced, boxAt, childAt}
 use Rattle.rules.specs.Doc.Levels.{Level, tested, said, boxStep, levelStep, boxes, countedBoxes, inside}
 use Rattle.rules.specs.Doc.Ftyp.{known, brandsFrom, brandTest, topFits, topLevel, top, stopped}
 use Rattle.rules.specs.Doc.Meta.{openedIn, opened, metaTest}
@@ -27,40 +27,42 @@ use Rattle.rules.specs.Laws.Lent.{block-lent}
 use Rattle.rules.specs.OverBytes.{metaBlock, keptBlock, added, totalFrom, blockOf, blockFrom, chosenBlock, itemBlock}
 
 abbrev pub InTable : ℕ → Type 0
-InTable n = T (leb 1 n && leb n 27)
+InTable n = T (leb 1 n && leb n 26)
 
 abbrev pub Numbered : {A : Type 0} → Outcome A → Type 0
 Numbered = Within InTable
 
--- ---- Fields and boxes
+-- ---- Fields, and boxes inside a box, of any table that has their numbers
 
-field-numbered : (s : List ℕ) (at n : ℕ) → Numbered (field s at n)
-unfolding field
-field-numbered s at n = either (leb (at + n) (length s)) _ _ went (with-number tt)
+module _ {Table : ℕ → Type 0} (three : Table 3) where
+  field-numbered : (s : List ℕ) (at n : ℕ) → Within Table (field s at n)
+  unfolding field
+  field-numbered s at n = either (leb (at + n) (length s)) _ _ went (with-number three)
 
-sized-numbered : (s : List ℕ) (at w n : ℕ) → InTable n → Numbered (sized s at w n)
-unfolding sized
-sized-numbered s at w n p = row _ _ (require-numbered (eqb w 0 || eqb w 4 || eqb w 8) n p) (λ u. field-numbered s at w)
+  sized-numbered : (s : List ℕ) (at w n : ℕ) → Table n → Within Table (sized s at w n)
+  unfolding sized
+  sized-numbered s at w n p = row _ _ (require-numbered (eqb w 0 || eqb w 4 || eqb w 8) n p) (λ u. field-numbered s at w)
 
-pub version-numbered : (s : List ℕ) (at : ℕ) → Numbered (version s at)
-unfolding version
-version-numbered s at = row _ _ (field-numbered s at 4) (λ v. went)
+  pub version-numbered : (s : List ℕ) (at : ℕ) → Within Table (version s at)
+  unfolding version
+  version-numbered s at = row _ _ (field-numbered s at 4) (λ v. went)
 
-size-numbered : (n : ℕ) (h : Header) → Numbered (bodySize n h)
-unfolding bodySize
-size-numbered n h =
-    either (eqb (h .size) 0) _ _ went
-    (either (eqb (h .size) 1) _ _ (either (ltb (h .large) 16) _ _ (with-number tt) went) (either (ltb (h .size) 8) _ _ (with-number tt) went))
+module _ {Table : ℕ → Type 0} (four : Table 4) where
+  size-numbered : (n : ℕ) (h : Header) → Within Table (bodySize n h)
+  unfolding bodySize
+  size-numbered n h =
+      either (eqb (h .size) 0) _ _ went
+      (either (eqb (h .size) 1) _ _ (either (ltb (h .large) 16) _ _ (with-number four) went) (either (ltb (h .size) 8) _ _ (with-number four) went))
 
-whole-numbered : (k n : ℕ) (b : Box) → InTable k → Numbered (whole k n b)
+whole-numbered : {Table : ℕ → Type 0} (k n : ℕ) (b : Box) → Table k → Within Table (whole k n b)
 unfolding whole
-whole-numbered k n b p = row _ _ (require-numbered (addressable (sizeOf (b .body))) 27 tt) (λ u. require-numbered (leb (b .body .to) n) k p)
+whole-numbered k n b p = require-numbered (leb (b .body .to) n) k p
 
-pub child-numbered : (s : List ℕ) (at : ℕ) → Numbered (childAt s at)
+pub child-numbered : {Table : ℕ → Type 0} → Table 3 → Table 4 → (s : List ℕ) (at : ℕ) → Within Table (childAt s at)
 unfolding childAt boxAt announced
-child-numbered s at =
-    row _ _ (row _ _ (given-numbered (headerAt s at) 3 tt) (λ h. row _ _ (size-numbered (length s) h) (λ size. went)))
-    (λ b. row _ _ (whole-numbered 3 (length s) b tt) (λ u. went))
+child-numbered three four s at =
+    row _ _ (row _ _ (given-numbered (headerAt s at) 3 three) (λ h. row _ _ (size-numbered four (length s) h) (λ size. went)))
+    (λ b. row _ _ (whole-numbered 3 (length s) b three) (λ u. went))
 
 -- ---- Levels
 
@@ -77,7 +79,7 @@ module _ (l : Level) (p : NumberedLevel l) (s : List ℕ) where
   box-numbered : (o : Option Header) → WithinStep InTable (boxStep l s o)
   unfolding boxStep
   box-numbered none = at-cut (p .cutNumber)
-  box-numbered (some h) = at-thing (row _ _ (size-numbered (length s) h) (λ size. said-numbered (boxWith h size)))
+  box-numbered (some h) = at-thing (row _ _ (size-numbered tt (length s) h) (λ size. said-numbered (boxWith h size)))
 
   level-numbered : (at : ℕ) → WithinStep InTable (levelStep l s at)
   unfolding levelStep
@@ -131,8 +133,8 @@ opened-numbered img =
 item-numbered : (body : List ℕ) → Numbered (item body)
 unfolding item itemIdSize
 item-numbered body =
-    row _ _ (version-numbered body 0) (λ v. row _ _ (either (eqb v 2) _ _ went (either (eqb v 3) _ _ went (with-number tt)))
-    (λ w. row _ _ (field-numbered body 4 w) (λ i. row _ _ (field-numbered body (4 + w) 2) (λ u. row _ _ (field-numbered body (6 + w) 4) (λ k. went)))))
+    row _ _ (version-numbered tt body 0) (λ v. row _ _ (either (eqb v 2) _ _ went (either (eqb v 3) _ _ went (with-number tt)))
+    (λ w. row _ _ (field-numbered tt body 4 w) (λ i. row _ _ (field-numbered tt body (4 + w) 2) (λ u. row _ _ (field-numbered tt body (6 + w) 4) (λ k. went)))))
 
 info-level-numbered : NumberedLevel infoLevel
 unfolding infoLevel itemTest
@@ -141,7 +143,7 @@ info-level-numbered = inside-numbered (isKind infe) itemTest (λ body. row _ _ (
 info-numbered : (body : List ℕ) → Numbered (infoTest body)
 unfolding infoTest infoCount infos
 info-numbered body =
-    row _ _ (row _ _ (version-numbered body 0) (λ v. row _ _ (field-numbered body 4 (countSize v)) (λ n. went)))
+    row _ _ (row _ _ (version-numbered tt body 0) (λ v. row _ _ (field-numbered tt body 4 (countSize v)) (λ n. went)))
     (λ c. outcome-numbered (infos body c .end) (counted-numbered infoLevel info-level-numbered body (c .count) (c .from)))
 
 meta-level-numbered : NumberedLevel metaLevel
@@ -150,7 +152,7 @@ meta-level-numbered = inside-numbered (isKind iinf) infoTest info-numbered
 
 meta-numbered : (body : List ℕ) → Numbered (metaTest body)
 unfolding metaTest
-meta-numbered body = row _ _ (version-numbered body 0) (λ v. require-numbered (eqb v 0) 8 tt)
+meta-numbered body = row _ _ (version-numbered tt body 0) (λ v. require-numbered (eqb v 0) 8 tt)
 
 kept-numbered : (body : List ℕ) → Numbered (kept body)
 unfolding kept keptIn children
@@ -164,18 +166,18 @@ kept-numbered body =
 table-numbered : (body : List ℕ) → Numbered (tableOf body)
 unfolding tableOf
 table-numbered body =
-    row _ _ (version-numbered body 0) (λ v. row _ _ (field-numbered body 4 2) (λ h. row _ _ (require-numbered (leb v 2) 10 tt) (λ u. row _ _ (field-numbered body 6 (idSize v)) (λ n. went))))
+    row _ _ (version-numbered tt body 0) (λ v. row _ _ (field-numbered tt body 4 2) (λ h. row _ _ (require-numbered (leb v 2) 10 tt) (λ u. row _ _ (field-numbered tt body 6 (idSize v)) (λ n. went))))
 
 entry-numbered : (t : Table) (body : List ℕ) (at : ℕ) → Numbered (entryAt t body at)
 unfolding entryAt
 entry-numbered t body at =
-    row _ _ (field-numbered body _ _) (λ i. row _ _ (field-numbered body _ _) (λ m. row _ _ (field-numbered body _ 2) (λ r. row _ _ (require-numbered (inFile (m % 16) r) 15 tt)
-    (λ u. row _ _ (sized-numbered body _ (t .baseSize) 11 tt) (λ b. row _ _ (field-numbered body _ 2) (λ n. went))))))
+    row _ _ (field-numbered tt body _ _) (λ i. row _ _ (field-numbered tt body _ _) (λ m. row _ _ (field-numbered tt body _ 2) (λ r. row _ _ (require-numbered (inFile (m % 16) r) 15 tt)
+    (λ u. row _ _ (sized-numbered tt body _ (t .baseSize) 11 tt) (λ b. row _ _ (field-numbered tt body _ 2) (λ n. went))))))
 
 extent-numbered : (z : Sizes) (body : List ℕ) (at : ℕ) → Numbered (extentAt z body at)
 unfolding extentAt
 extent-numbered z body at =
-    row _ _ (sized-numbered body at (z .index) 12 tt) (λ i. row _ _ (sized-numbered body _ (z .offset) 13 tt) (λ o. row _ _ (sized-numbered body _ (z .length) 14 tt) (λ l. went)))
+    row _ _ (sized-numbered tt body at (z .index) 12 tt) (λ i. row _ _ (sized-numbered tt body _ (z .offset) 13 tt) (λ o. row _ _ (sized-numbered tt body _ (z .length) 14 tt) (λ l. went)))
 
 extents-numbered : (z : Sizes) (body : List ℕ) (e : Entry) → WithinEnd InTable (extents z body e .end)
 unfolding extents extentMet
@@ -215,9 +217,8 @@ lies-numbered : (method n base : ℕ) (x : Extent) → Numbered (lies method n b
 unfolding lies inImage inIdat
 lies-numbered method n base x =
     row _ _ (require-numbered (ltb from (2 ^ 64)) 18 tt) (λ u. either (eqb method 0) _ _
-    (row _ _ (require-numbered (addressable (x .length)) 27 tt) (λ v. row _ _ (require-numbered (leb to n) 2 tt) (λ w. went)))
-    (row _ _ (require-numbered (ltb (from + x .length) (2 ^ 64)) 19 tt)
-    (λ v. row _ _ (require-numbered (addressable (from + x .length)) 27 tt) (λ w. row _ _ (require-numbered (leb from n && leb to n) 20 tt) (λ z. went)))))
+    (row _ _ (require-numbered (leb to n) 2 tt) (λ w. went))
+    (row _ _ (require-numbered (ltb (from + x .length) (2 ^ 64)) 19 tt) (λ v. row _ _ (require-numbered (leb from n && leb to n) 20 tt) (λ z. went))))
   where
     from : ℕ
     from = base + x .offset
@@ -260,12 +261,9 @@ block-numbered img = go (block img) (subst Numbered (sym (block-lent img)) (byte
 
 -- ---- What that shows
 
--- none is above 27
-pub in-table-most : (n : ℕ) → InTable n → n ≤ 27
-in-table-most n p = leb→le n 27 (both (leb 1 n) (leb n 27) p .1)
-
-pub refusal-below : {A : Type 0} (n : ℕ) → Numbered {A = A} (refused n) → n ≤ 27
-refusal-below n (with-number p) = in-table-most n p
+-- none is above 26
+pub in-table-most : (n : ℕ) → InTable n → n ≤ 26
+in-table-most n p = leb→le n 26 (both (leb 1 n) (leb n 26) p .1)
 
 -- so neither success nor the room is among them
 pub in-table-early : (n : ℕ) → InTable n → NeitherNumber n

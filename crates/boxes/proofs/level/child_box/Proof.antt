@@ -1,8 +1,8 @@
--- A header that is cut or invalid is refused whatever stands behind it. One that was read announces a body, of which the definition asks two things,
--- and the two tests ask the same: that it can be addressed, and that it ends inside.
+-- A header that is cut or invalid is refused whatever stands behind it. One that was read announces a body, of which definition and test ask the same:
+-- that it ends inside.
 use native.Mathlib.Omega.{arith}
 use mathlib.Core.Logic.{⊎-elim}
-use Rattle.rules.specs.Laws.Decision.{child-beyond, child-cut, child-whole}
+use Rattle.rules.specs.Laws.Decision.{child-cut, child-whole}
 use borrow.Author.Tests.{ltb-true, ltb-false}
 use borrow.Author.Needs.{needs}
 use Rattle.boxes.proofs.level.child_box.Statement.{statement}
@@ -17,28 +17,25 @@ enum-told-2 c = search needs
 enum-known-header : tie.Need-enum-known-header
 enum-known-header c = search needs
 
-returns : tie.Need-returns
-returns c at = rw (c .before .before .header .given .1) (child-beyond _ _ _ _ _ (c .if1 .taken))
+sub-if2 : tie.Need-sub-if2
+sub-if2 c = search needs
 
-sub-if3 : tie.Need-sub-if3
-sub-if3 c = search needs
+returns : tie.Need-returns
+returns c at =
+    rw (c .before .before .header .given .1)
+    (child-cut _ _ _ _ _ (⊎-elim (λ w. omega arith) (λ w. omega (arith, ltb-true)) (c .if1 .came)))
+
+add-t16 : tie.Need-add-t16
+add-t16 c = omega (arith, ltb-false)
 
 returns-2 : tie.Need-returns-2
-returns-2 c at =
-    rw (c .before .before .before .header .given .1)
-    (child-cut _ _ _ _ _ (omega arith) (⊎-elim (λ w. omega arith) (λ w. omega (arith, ltb-true)) (c .if2 .came)))
-
-add-t18 : tie.Need-add-t18
-add-t18 c = omega (arith, ltb-false)
+returns-2 c at = rw (c .enum-told .given .1)
 
 returns-3 : tie.Need-returns-3
-returns-3 c at = rw (c .enum-told .given .1)
+returns-3 c at = rw (c .enum-told2 .given .1)
 
 returns-4 : tie.Need-returns-4
-returns-4 c at = rw (c .enum-told2 .given .1)
-
-returns-5 : tie.Need-returns-5
-returns-5 c at = rw (c .before .before .before .before .header .given .1) (child-whole _ _ _ _ _ (omega arith) (omega (arith, ltb-false)))
+returns-4 c at = rw (c .before .before .before .header .given .1) (child-whole _ _ _ _ _ (omega (arith, ltb-false)))
 
 pub child-box-spec : {M : Type 1} → statement M
 child-box-spec =
@@ -47,10 +44,9 @@ child-box-spec =
     enum-told
     enum-told-2
     enum-known-header
+    sub-if2
     returns
-    sub-if3
+    add-t16
     returns-2
-    add-t18
     returns-3
-    returns-4
-    returns-5)
+    returns-4)

@@ -33,7 +33,10 @@ returns-4 : tie.Need-returns-4
 returns-4 c = method-22 _ _ _ _ _ _ (c .match .keys3)
 
 returns-5 : tie.Need-returns-5
-returns-5 c = method-23 _ _ _ _ _ _ (c .match .rest .0 .0 .1) (c .match .rest .0 .1) (c .match .rest .1)
+returns-5 c = let r = c .before .match .rest in method-23 _ _ _ _ _ _ (r .0 .0 .1) (r .0 .1) (r .1)
+
+returns-6 : tie.Need-returns-6
+returns-6 c = let r = c .before .match .rest in method-23 _ _ _ _ _ _ (r .0 .0 .1) (r .0 .1) (r .1)
 
 pub extract-chosen-spec : {M : Type 1} → statement M
 extract-chosen-spec =
@@ -47,4 +50,5 @@ extract-chosen-spec =
     same-length-2
     returns-3
     returns-4
-    returns-5)
+    returns-5
+    returns-6)

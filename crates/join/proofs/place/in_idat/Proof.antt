@@ -1,4 +1,4 @@
--- Each test is the definition's, in its order. 27 is not reached: an end that passed 19 is below 2^64, and that is all that 27 asks on this target.
+-- Each test is the definition's, in its order.
 use borrow.Author.Needs.{needs}
 use native.Mathlib.Omega.{arith}
 use Rattle.rules.specs.Laws.Places.{idat-19, idat-past, idat-open, idat-20, idat-part}
@@ -18,21 +18,17 @@ add-end : tie.Need-add-end
 add-end c = search needs
 
 returns-2 : tie.Need-returns-2
-returns-2 c = absurd (omega arith)
+returns-2 c = idat-past _ _ _ (omega arith) (omega arith)
 
 returns-3 : tie.Need-returns-3
-returns-3 c = idat-past _ _ _ (omega arith) (omega arith)
+returns-3 c = idat-open _ _ _ (omega arith) (omega arith) (c .if3 .taken)
 
 returns-4 : tie.Need-returns-4
-returns-4 c = idat-open _ _ _ (omega arith) (omega arith) (c .if4 .taken)
+returns-4 c = idat-20 _ _ _ (omega arith) (c .before .if3 .left) (omega arith) (omega arith)
 
 returns-5 : tie.Need-returns-5
-returns-5 c = idat-20 _ _ _ (omega arith) (c .before .if4 .left) (omega arith) (omega arith)
-
-returns-6 : tie.Need-returns-6
-returns-6 c = idat-part _ _ _ (omega arith) (c .before .if4 .left) (omega arith)
+returns-5 c = idat-part _ _ _ (omega arith) (c .before .if3 .left) (omega arith)
 
 pub in-idat-spec : {M : Type 1} → statement M
 in-idat-spec =
-    tie.close
-    (tie.spec add-offset sub-if1 returns add-end returns-2 returns-3 returns-4 returns-5 returns-6)
+    tie.close (tie.spec add-offset sub-if1 returns add-end returns-2 returns-3 returns-4 returns-5)

@@ -1,4 +1,4 @@
--- Variant by variant: the number that is written beside it fits a byte, and is the one of the table. A sum of 32 is taken apart one by one.
+-- Variant by variant: the number that is written beside it fits a byte, and is the one of the table. A sum of 31 is taken apart one by one.
 use mathlib.Core.Logic.{⊎-elim}
 use mir.Facts.{fits-lit}
 use mir.Syntax.{w8, w64}
@@ -109,9 +109,6 @@ enum-told-30 c = search needs
 enum-told-31 : tie.Need-enum-told-31
 enum-told-31 c = search needs
 
-enum-told-32 : tie.Need-enum-told-32
-enum-told-32 c = search needs
-
 -- a number that is no less than 0, fits a byte, and is the one of the table
 abbrev Right : ℕ → Refusal → Type 0
 Right n e = (T (nonNeg (toZ w64 n)) × Fits w8 (natAbs (toZ w64 n))) × (natAbs (toZ w64 n) ≡ number e)
@@ -148,8 +145,7 @@ by-variant c =
     (⊎-elim (λ w. rw (w .2, w .1 .given .1) ((tt, fits-lit tt), refl))
     (⊎-elim (λ w. rw (w .2, w .1 .given .1) ((tt, fits-lit tt), refl))
     (⊎-elim (λ w. rw (w .2, w .1 .given .1) ((tt, fits-lit tt), refl))
-    (⊎-elim (λ w. rw (w .2, w .1 .given .1) ((tt, fits-lit tt), refl))
-    (λ w. rw (w .2, w .1 .given .1) ((tt, fits-lit tt), refl)))))))))))))))))))))))))))))))) (c .match .came)
+    (λ w. rw (w .2, w .1 .given .1) ((tt, fits-lit tt), refl))))))))))))))))))))))))))))))) (c .match .came)
 
 cast-result : tie.Need-cast-result
 cast-result c = by-variant c .0
@@ -192,6 +188,5 @@ number-spec =
     enum-told-29
     enum-told-30
     enum-told-31
-    enum-told-32
     cast-result
     returns)
