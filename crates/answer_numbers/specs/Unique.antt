@@ -1,6 +1,5 @@
--- No two outcomes meet the contract of `answer_number` or of `put_answer`.
+-- No two outcomes meet the contract of `put_answer`.
 use Rattle.std.specs.Prelude.{◌≡◌, ℕ, List, []}
-use Rattle.std.proofs.Common.{sym, ◌∙◌}
 use Rattle.output.specs.Told.{told}
 use Rattle.output.specs.Copied.{Copied}
 use Rattle.output.specs.Unique.{put_one}
@@ -14,7 +13,3 @@ Numbers answer before r after = (out : List ℕ) → Copied (numbers_text (told 
 pub numbers_one : (answer : Extracted) (before : List ℕ) {r r' : ℕ} {after after' : List ℕ}
     → Numbers answer before r after → Numbers answer before r' after' → (r ≡ r') × (after ≡ after')
 numbers_one answer before p q = put_one (p []) (q [])
-
-pub number_one : (answer : Extracted) {r r' : ℕ} → ((out : List ℕ) → r ≡ (told answer out).number) → ((out : List ℕ) → r' ≡ (told answer out).number)
-    → r ≡ r'
-number_one answer p q = p [] ∙ sym (q [])

@@ -1,23 +1,12 @@
-// The number of an answer; and the two numbers that every line about an answer begins with, `answer=N length=L`, as text in a lent buffer. Each `put`
-// writes its text as far as there is room, and answers the place behind the last byte.
-ghost use Rattle.std.specs.Prelude.{◌≡◌, ℕ, List};
+// The two numbers that every line about an answer begins with, `answer=N length=L`, as text in a lent buffer. Each function puts its text as far as
+// there is room, and answers the place behind the last byte.
+ghost use Rattle.std.specs.Prelude.{ℕ, List};
 ghost use Rattle.rules.specs.Doc.Text.{decimal};
 ghost use Rattle.output.specs.Told.{told};
 ghost use Rattle.output.specs.Copied.{Copied};
 ghost use Rattle.answer_numbers.specs.Numbers.{numbers_text};
 
-use boxes::Refusal;
 use output::{Extracted, put};
-
-pub fn answer_number(answer: Extracted) -> u8
-    ensures { (out : List ℕ) → result ≡ (told answer out).number }
-{
-    match answer {
-        Extracted::Done(_) => 0,
-        Extracted::NoRoom(_) => Refusal::NoRoom.number(),
-        Extracted::Refused(refusal) => refusal.number(),
-    }
-}
 
 fn put_decimal(n: usize, line: &mut [u8], at: usize) -> usize
     ensures { Copied (decimal n) at line.old result line.new }

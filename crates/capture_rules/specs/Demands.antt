@@ -3,7 +3,5 @@
 pub mod Block
 -- Of an image: the same, and its refusals, the length of its line, and that pictures have no say.
 pub mod Photo
--- Of the lines of named files: each is one line.
-pub mod Files
 -- What a refusal means where more than one thing is wrong.
 pub mod Order

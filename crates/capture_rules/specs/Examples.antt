@@ -1,13 +1,9 @@
--- Fractions in lowest terms, one list with one claim, and lines of named files. The checker computes them.
+-- Fractions in lowest terms, one list with one claim. The checker computes them.
 -- No axiom and no premise is used.
-use Rattle.std.specs.Prelude.{◌≡◌, refl, ℕ, ◌^◌, Bool, ◌&&◌, List, [], ◌∷◌, ◌++◌, ℤ, pos, neg_ℤ, T, eqb}
+use Rattle.std.specs.Prelude.{ℕ, ◌^◌, Bool, ◌&&◌, List, [], ◌∷◌, ℤ, pos, neg_ℤ, T, eqb}
 use Rattle.std.specs.Int.Signed.{le_z}
-use Rattle.rules.specs.Doc.Outcomes.{refused}
-use Rattle.rules.specs.Doc.Text.{ascii}
 use Rattle.rules.specs.Cases.{every}
 use Rattle.capture_rules.specs.Doc.Fraction.{Fraction, signed32, gcd_in, lowest}
-use Rattle.capture_rules.specs.Doc.Line.{file_line, unread_line}
-use Rattle.capture_rules.specs.Unfold.{request}
 
 -- what four bytes above and four bytes below read as, and their fraction
 pub record Example : Type 0 where
@@ -37,9 +33,3 @@ right e = equal (lowest (signed32 e.above) (signed32 e.below)) e.fraction
 pub all_examples : T (every right examples)
 unfolding every right equal examples gives signed32 gcd_in lowest
 all_examples = tt
-
--- a name with a newline, 31, a blank, 126, 127 and the two bytes of `ü`; and one without a byte
-pub named_lines : (file_line (refused 33) (10 ∷ 31 ∷ 32 ∷ 126 ∷ 127 ∷ 195 ∷ 188 ∷ []) ≡ ascii "answer=33 file=?? ~?" ++ (195 ∷ 188 ∷ 10 ∷ []))
-    × (unread_line [] ≡ ascii "unread file=" ++ (10 ∷ []))
-unfolding request
-named_lines = (refl, refl)

@@ -5,4 +5,4 @@ use Rattle.case_reader.specs.declared.Next.TheVariants.{Case, Over}
 
 abbrev pub Within : ℕ → ℕ → Next → Type 0
 Within images outs (Case kind image out) = (image ≤ images) × (out ≤ outs)
-Within images outs (Over status) = Unit
+Within images outs Over = Unit

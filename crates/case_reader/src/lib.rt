@@ -4,9 +4,8 @@ ghost use Rattle.std.specs.Prelude.{◌≡◌, length, replicate};
 ghost use Rattle.case_reader.specs.Within.{Within};
 
 use libc::{STDIN_FILENO, STDOUT_FILENO};
-use tool::{FINE, Input, REFUSED};
 
-// The kind and the two lengths of a case; or the run is over, with a status.
+// The kind and the two lengths of a case; or the run is over.
 #[derive(Drop)]
 pub enum Next {
     Case {
@@ -14,38 +13,17 @@ pub enum Next {
         image_len: usize,
         out_len: usize,
     },
-    Over(u8),
+    Over,
 }
 
-// Ends the run with a line that says why; the answer is its status.
-fn stop(case: u64, why: &[u8]) -> u8 {
+// Ends the run with a line that says why.
+fn stop(case: u64, why: &[u8]) -> Next
+    ensures { result ≡ Next.Over }
+{
     io::write_all(STDOUT_FILENO, b"case=");
     io::print_decimal(STDOUT_FILENO, case);
-    if io::write_all(STDOUT_FILENO, why) {
-        return REFUSED;
-    }
-    tool::lost(b"cases")
-}
-
-// Whether all of a part was there; if not, the status that the run ends with.
-#[derive(Drop)]
-enum Part {
-    All,
-    Over(u8),
-}
-
-// Where a case begins the input may end.
-fn read_part(case: u64, begins: bool, part: &mut [u8]) -> Part {
-    match tool::read_input(STDIN_FILENO, part) {
-        Input::Full => Part::All,
-        Input::Failed => Part::Over(tool::fault(b"cases", b": standard input")),
-        Input::Whole(n) => {
-            if begins && n == 0 {
-                return Part::Over(FINE);
-            }
-            Part::Over(stop(case, b" cut\n"))
-        }
-    }
+    io::write_all(STDOUT_FILENO, why);
+    Next::Over
 }
 
 // Reads the case of that number, its image to the front of `image`. Its output may have `most` bytes at most. A run that is over too soon, because the
@@ -54,17 +32,21 @@ pub fn next_case(case: u64, image: &mut [u8], most: usize) -> Next
     ensures { Within (length image.new) most result }
 {
     let mut head = [0u8; 9];
-    if let Part::Over(status) = read_part(case, true, &mut head) {
-        return Next::Over(status);
+    let got = io::read_full(STDIN_FILENO, &mut head);
+    if got == 0 {
+        return Next::Over;
+    }
+    if got < 9 {
+        return stop(case, b" cut\n");
     }
     let kind = head[0];
     let n = endian::loadu32(&head, 1) as usize;
     let m = endian::loadu32(&head, 5) as usize;
     if image.len() < n || most < m {
-        return Next::Over(stop(case, b" too long\n"));
+        return stop(case, b" too long\n");
     }
-    if let Part::Over(status) = read_part(case, false, &mut image[..n]) {
-        return Next::Over(status);
+    if io::read_full(STDIN_FILENO, &mut image[..n]) < n {
+        return stop(case, b" cut\n");
     }
     Next::Case {
         kind: kind,

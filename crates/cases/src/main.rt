@@ -3,7 +3,6 @@
 use case_reader::Next;
 use libc::STDOUT_FILENO;
 use listing::LONGEST_TEXT;
-use tool::{FINE, Task};
 
 const MOST_IMAGE: usize = 1048576;
 
@@ -62,64 +61,24 @@ fn show(case: u64, kind: u8, image: &[u8], out: &mut [u8], line: &mut [u8]) -> b
     }
 }
 
-// Whether to go on; if not, the status that the run ends with.
-#[derive(Drop)]
-enum Step {
-    On,
-    Over(u8),
-}
-
-// Reads one case and shows it.
-fn one(case: u64, image: &mut [u8], out: &mut [u8], line: &mut [u8]) -> Step {
-    match case_reader::next_case(case, image, out.len()) {
-        Next::Over(status) => Step::Over(status),
-        Next::Case {
-            kind,
-            image_len,
-            out_len,
-        } => {
-            if show(case, kind, &image[..image_len], &mut out[..out_len], line) {
-                return Step::On;
-            }
-            Step::Over(tool::lost(b"cases"))
-        }
-    }
+// Reads one case and shows it, and says whether to go on.
+fn one(case: u64, image: &mut [u8], out: &mut [u8], line: &mut [u8]) -> bool {
+    let Next::Case {
+        kind,
+        image_len,
+        out_len,
+    } = case_reader::next_case(case, image, out.len())
+    else {
+        return false;
+    };
+    show(case, kind, &image[..image_len], &mut out[..out_len], line)
 }
 
 // A proved loop has to end, and nothing says that standard input does. So the loop counts the cases, up to a number that no run reaches.
-fn take_cases(image: &mut [u8], out: &mut [u8], line: &mut [u8]) -> u8 {
-    let mut case: u64 = 1;
-    while case < u64::MAX {
-        if let Step::Over(status) = one(case, image, out, line) {
-            return status;
-        }
-        case += 1;
-    }
-    FINE
-}
-
-fn help() -> u8 {
-    tool::print_all(
-        b"cases",
-        b"usage: cases < RUN
-
-Asks the proved functions a run of cases, and prints what each answers.
-docs/MAP.md, \"Runs of cases\", has the form of a case, the kinds and their lines.
-
-  --help, --version
-
-The status is 0 if all input was read and answered, whatever the answers,
-1 if the run ended too soon (cut, too long),
-2 for wrong words, or a fault of standard input or of output.
-",
-    )
-}
-
 fn run(image: &mut [u8], out: &mut [u8], line: &mut [u8]) {
-    match tool::begin(b"cases", b"cases < RUN", false, image) {
-        Task::Help { told } => tool::say_status(told, help()),
-        Task::Over { told, status } => tool::say_status(told, status),
-        Task::Work { told, .. } => tool::say_status(told, take_cases(image, out, line)),
+    let mut case: u64 = 1;
+    while case < u64::MAX && one(case, image, out, line) {
+        case += 1;
     }
 }
 

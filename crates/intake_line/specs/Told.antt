@@ -28,7 +28,7 @@ told_line a = sym (append_assoc (named "answer=" a.number) (named " length=" a.l
 
 module _ (img out : List ℕ) (bytes : Bytes img) (room : 65531 ≤ length out) where
   -- a block that extraction found had room
-  pub told_entry_is : told_entry (either_answer img out) ≡ intake_entry img
+  told_entry_is : told_entry (either_answer img out) ≡ intake_entry img
   unfolding intake_entry entry_for answer_by answer_with
   told_entry_is = go (either_block img) refl
     where

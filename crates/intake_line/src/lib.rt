@@ -4,11 +4,11 @@ ghost use Rattle.jpeg_rules.specs.Doc.Either.{either_answer};
 ghost use Rattle.sheet_rules.specs.Doc.Lines.{line_text};
 ghost use Rattle.output.specs.Told.{told};
 ghost use Rattle.output.specs.Copied.{Copied};
-ghost use Rattle.intake_line.specs.Line.{intake_entry, intake_text};
+ghost use Rattle.intake_line.specs.Line.{intake_text};
 ghost use Rattle.intake_line.specs.Told.{told_entry};
 
+use libc::STDOUT_FILENO;
 use output::Extracted;
-use text::Line;
 
 // No block is longer (`either_limit` in jpeg_rules, Demands/One), so extraction always has room.
 pub const LONGEST_BLOCK: usize = 65531;
@@ -24,29 +24,32 @@ fn put_line(answer: Extracted, line: &mut [u8]) -> usize
 }
 
 // Over slices of any length: a block may have no room here, and a line be cut.
-fn told_line(image: &[u8], block: &mut [u8], line: &mut [u8]) -> Line
-    ensures number_value { result.number ≡ (either_answer image.now block.old).number }
-    ensures copied { Copied (line_text (told_entry (either_answer image.now block.old))) 0 line.old result.length line.new }
+fn told_line(image: &[u8], block: &mut [u8], line: &mut [u8]) -> usize
+    ensures copied { Copied (line_text (told_entry (either_answer image.now block.old))) 0 line.old result line.new }
     ensures block_after { block.new ≡ (either_answer image.now block.old).output }
 {
     let answer = reader::get_exif_attr(image, block);
-    let end = put_line(answer, line);
-    Line {
-        number: answer_numbers::answer_number(answer),
-        length: end,
-    }
+    put_line(answer, line)
 }
 
-// Extracts the block of `image` to the front of `block`, and puts the line at the front of `line`.
+// Extracts the block of `image` to the front of `block`, and puts the line at the front of `line`. The answer is the line's length.
 pub fn file_line(
     image: &[u8],
     block: &mut [u8; LONGEST_BLOCK],
     line: &mut [u8; LONGEST_LINE],
-) -> Line
-    ensures number_value { result.number ≡ (intake_entry image.now).answer }
-    ensures length_value { (result.length ≡ length (intake_text image.now)) × (result.length ≤ 23) }
-    ensures line_after { line.new ≡ intake_text image.now ++ drop result.length line.old }
+) -> usize
+    ensures value { (result ≡ length (intake_text image.now)) × (result ≤ 23) }
+    ensures line_after { line.new ≡ intake_text image.now ++ drop result line.old }
     ensures block_after { block.new ≡ (either_answer image.now block.old).output }
 {
     told_line(image, block, line)
+}
+
+// The line on standard output; the answer is whether all of it was written.
+pub fn print_line(image: &[u8], block: &mut [u8; LONGEST_BLOCK]) -> bool
+    ensures { block.new ≡ (either_answer image.now block.old).output }
+{
+    let mut line = [0u8; LONGEST_LINE];
+    let n = file_line(image, block, &mut line);
+    io::write_all(STDOUT_FILENO, &line[..n])
 }

@@ -1,66 +1,34 @@
-// Says when photographs were taken, and their exposure bias: a line for each file that is named, or for the picture on standard input.
-use files::{MOST_IMAGE, MOST_NAME, Tell};
-use tool::Task;
+// Says when the picture on standard input was taken, and its exposure bias: one line.
+use libc::{STDERR_FILENO, STDIN_FILENO};
 
-fn help() -> u8 {
-    tool::print_all(
-        b"photo_time",
-        b"usage: photo_time [--why] [--] [NAME..]
+// The longest image that is read.
+const LONGEST: usize = 6291456;
 
-Says when photographs were taken, HEIF or JPEG: a line for each file, in order.
-Without names, and for the name -, it reads standard input.
+// One byte more: so a longer image is seen to be longer, and need not be read on.
+const MOST_IMAGE: usize = LONGEST + 1;
 
-  answer=0 date=2023:06:14 09:26:53 bias=-1/2 file=NAME
-      date and time by the camera's clock, and the exposure bias
-  answer=N file=NAME
-      refused, with a number that says why
-  unread file=NAME
-      can't be opened or read, or has over 6291456 bytes; standard error says why
+// No block is longer, so extraction always has room.
+const MOST_BLOCK: usize = 65531;
 
-  --why      says on standard error what each N means
-  --         ends the options: every word behind it is a name
-  --help, --version
-
-The status is 0 if every answer is 0, 1 if a file was refused or unread,
-2 for wrong words, or a fault of standard input or of output.
-",
-    )
-}
-
-fn run(name: &mut [u8], image: &mut [u8]) {
-    match tool::begin(
-        b"photo_time",
-        b"photo_time [--why] [--] [NAME..]",
-        true,
-        name,
-    ) {
-        Task::Help { told } => tool::say_status(told, help()),
-        Task::Over { told, status } => tool::say_status(told, status),
-        Task::Work {
-            told,
-            why,
-            named,
-            ended,
-        } => {
-            if named {
-                tool::say_status(
-                    told,
-                    files::take_names(Tell::Date, told, why, ended, name, image),
-                );
-            } else {
-                tool::say_status(told, files::take_input(why, image));
-            }
-        }
+fn run(image: &mut [u8], block: &mut [u8]) {
+    let n = io::read_full(STDIN_FILENO, image);
+    if LONGEST < n {
+        io::write_all(
+            STDERR_FILENO,
+            b"photo_time: the image is longer than 6291456 bytes\n",
+        );
+        return;
     }
+    capture_line::print_line(&image[..n], block);
 }
 
 // Lends the arrays as slices: they live on the stack of `main`, once.
-fn lend(name: &mut [u8; MOST_NAME], image: &mut [u8; MOST_IMAGE]) {
-    run(name, image);
+fn lend(image: &mut [u8; MOST_IMAGE], block: &mut [u8; MOST_BLOCK]) {
+    run(image, block);
 }
 
 fn main() {
-    let mut name = [0u8; MOST_NAME];
     let mut image = [0u8; MOST_IMAGE];
-    lend(&mut name, &mut image);
+    let mut block = [0u8; MOST_BLOCK];
+    lend(&mut image, &mut block);
 }

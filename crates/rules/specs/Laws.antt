@@ -1,6 +1,5 @@
 -- Laws that the proofs cite, so that they need not open a definition.
--- whether bytes are the same; steps in a row
-pub mod Same
+-- steps in a row
 pub mod Rows
 -- numbers in either byte order, numbers and fields
 pub mod Endian
@@ -41,9 +40,8 @@ pub mod Numbered
 pub mod Room
 pub mod Refusals
 pub mod Back
--- numbers and names as text
+-- numbers as text
 pub mod Text
-pub mod Names
 -- a box in a part of the bytes
 pub mod Moved
 -- the listing box by box, over boxes in a row, and how long it can be

@@ -1,5 +1,7 @@
 -- Laws of request fourteen's definitions: what the theorems and the proofs of the code cite. No axiom and no premise is used.
 
+-- bytes that are the same
+pub mod Same
 -- where the digits of a number end; a line of names and numbers; the lines of an input; the shape of one
 pub mod Digits
 pub mod Rows

@@ -1,7 +1,6 @@
 -- A text written at a place has one outcome, the place behind it and the buffer: so each contract of this crate determines both.
 use Rattle.std.specs.Prelude.{◌≡◌, ℕ, List, length}
 use Rattle.std.proofs.Common.{sym, ◌∙◌}
-use Rattle.rules.specs.Doc.Text.{shown}
 use Rattle.rules.specs.Doc.Listing.{printed}
 use Rattle.text.specs.Wrote.{Wrote}
 
@@ -14,6 +13,3 @@ wrote_one p q = (p.place ∙ sym q.place, p.buffer ∙ sym q.buffer)
 pub text_one : (text out : List ℕ) {r r' : ℕ} {after after' : List ℕ} → (r ≡ length text) × (after ≡ printed text out)
     → (r' ≡ length text) × (after' ≡ printed text out) → (r ≡ r') × (after ≡ after')
 text_one text out p q = (p.0 ∙ sym q.0, p.1 ∙ sym q.1)
-
-pub show_one : (name : List ℕ) {after after' : List ℕ} → after ≡ shown name → after' ≡ shown name → after ≡ after'
-show_one name p q = p ∙ sym q

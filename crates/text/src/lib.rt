@@ -1,19 +1,8 @@
-// Text into a lent buffer. Each `put` writes from a position on, as much as there is room for, and answers the place behind its text, past the end of
-// a buffer that is too short. So of texts one behind the other, from 0 on, the last place is the length of them all.
-mod name;
-
+// Text into a lent buffer. Each function writes from a position on, as much as there is room for, and answers the place behind its text, past the
+// end of a buffer that is too short. So of texts one behind the other, from 0 on, the last place is the length of them all.
 ghost use Rattle.std.specs.Prelude.{◌≡◌, ◌+◌, ◌^◌, ◌<◌, [], ◌∷◌, ◌++◌, length};
 ghost use Rattle.rules.specs.Doc.Text.{digit, hex, decimal};
 ghost use Rattle.text.specs.Wrote.{Wrote};
-
-pub use name::show;
-
-// A line that was made: the number that it tells, and its length, that of all of it where the buffer is too short.
-#[derive(Drop)]
-pub struct Line {
-    pub number: u8,
-    pub length: usize,
-}
 
 fn put_byte(b: u8, out: &mut [u8], at: usize) -> usize
     requires { at + 1 < 2 ^ 64 }

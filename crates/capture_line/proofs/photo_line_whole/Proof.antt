@@ -22,10 +22,9 @@ unfolding printed
 returns c =
     let a = c.before.before.before.before.before.before.before.args in
     let told = c.before.before.photo-line.ensures in
-    let size = told.1.0 in
     let limit = line_limit a.image.now a.block.now in
     let whole = take_all (length a.out.now) (line_text (photo a.image.now a.block.now)) (omega (arith, limit)) in
-    (told.0, ((size, omega (arith, size, limit)), (told.1.1.0 ∙ rw (size, printed, whole), told.1.1.1)))
+    ((told.0, omega (arith, told.0, limit)), (told.1.0 ∙ rw (told.0, printed, whole), told.1.1))
 
 pub photo_line_whole_spec : {M : Type 1} → statement M
 photo_line_whole_spec = tie.close (tie.spec photo_line_requires same_length returns)

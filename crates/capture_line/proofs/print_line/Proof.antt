@@ -1,6 +1,6 @@
 -- The line is no longer than its buffer, since it stands whole at the buffer's front.
-use mathlib.Core.Path.{ap}
 use Prim.Native.Nat.{◌≤◌}
+use mathlib.Core.Path.{ap}
 use native.Mathlib.Omega.{arith}
 use lib.ListN.{length, length-append}
 use borrow.Author.Rules.{rules}
@@ -11,9 +11,9 @@ use Rattle.capture_line.proofs.print_line.Tie as tie
 photo_line_whole_requires : tie.Need-photo-line-whole-requires
 photo_line_whole_requires c κs = search rules
 
-inside : (c : tie.After-photo-line-whole) → c.photo-line-whole.result.length ≤ length c.photo-line-whole.new.1.1.0
+inside : (c : tie.After-photo-line-whole) → c.photo-line-whole.result ≤ length c.photo-line-whole.new.1.1.0
 inside c =
-    let told = c.photo-line-whole.ensures.1 in
+    let told = c.photo-line-whole.ensures in
     omega (arith, told.0.0, simp length-append at (ap length told.1.0))
 
 array_share_prefix_line : tie.Need-array-share-prefix-line

@@ -1,7 +1,5 @@
 -- The line goes by what was read of the image; the number of a refusal is its own.
-use mathlib.Core.Path.{refl}
 use borrow.Author.Rules.{rules}
-use Rattle.capture_rules.specs.Doc.Line.{line_number}
 use Rattle.capture_line.proofs.put_photo.Statement.{statement}
 use Rattle.capture_line.proofs.put_photo.Tie as tie
 
@@ -33,14 +31,12 @@ same_length : tie.Need-same-length
 same_length c = search rules
 
 returns : tie.Need-returns
-unfolding line_number
-returns c = rw c.before.before.before.before.before.photo.given.1 (refl, c.before.before.put-capture.ensures)
+returns c = rw c.before.before.before.before.before.photo.given.1 c.before.before.put-capture.ensures
 
 same_length_2 : tie.Need-same-length-2
 same_length_2 c = search rules
 
 returns_2 : tie.Need-returns-2
-unfolding line_number
 returns_2 c =
     let told = c.before.before.before.before in
     rw (told.before.before.photo2.given.1, ← told.number.ensures) c.before.before.put-refusal.ensures
@@ -49,7 +45,6 @@ same_length_3 : tie.Need-same-length-3
 same_length_3 c = search rules
 
 returns_3 : tie.Need-returns-3
-unfolding line_number
 returns_3 c =
     let told = c.before.before.before.before in
     rw (told.before.before.photo3.given.1, ← told.number2.ensures) c.before.before.put-refusal2.ensures

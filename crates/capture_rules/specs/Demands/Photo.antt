@@ -2,7 +2,7 @@
 -- is. Pictures have no say.
 use Rattle.std.specs.Prelude.{◌≡◌, ◌⊎◌, length, take, drop, leb}
 use Rattle.std.proofs.Math.Path.{refl}
-use Rattle.std.proofs.Common.{sym, ap, ◌∙◌, ⊎_elim, le_trans, pos_of_ne-zero, arith, length-append, leb→le, lit≤, lit<}
+use Rattle.std.proofs.Common.{sym, ap, ◌∙◌, ⊎_elim, le_trans, pos_of_ne-zero, arith, leb→le, lit≤, lit<}
 use Rattle.std.proofs.Math.Bool.{Bool, true, false}
 use Rattle.std.proofs.Math.Logic.{inl, inr}
 use Rattle.std.proofs.Math.Option.{some}
@@ -28,9 +28,9 @@ use Rattle.jpeg_rules.specs.Demands.Three as extraction
 use Rattle.capture_rules.specs.Doc.Header.{Header, header}
 use Rattle.capture_rules.specs.Doc.Fraction.{Fraction}
 use Rattle.capture_rules.specs.Doc.Capture.{Capture, capture, of_answer, photo}
-use Rattle.capture_rules.specs.Doc.Line.{answer_text, line_text}
+use Rattle.capture_rules.specs.Doc.Line.{line_text}
 use Rattle.capture_rules.specs.Laws.Calendar.{Real}
-use Rattle.capture_rules.specs.Laws.LineText.{Small, answer_length, refusal_length}
+use Rattle.capture_rules.specs.Laws.LineText.{Small, line_length, refusal_length}
 use Rattle.capture_rules.specs.Laws.Faults.{Numbered, capture_numbered}
 use Rattle.capture_rules.specs.Demands.Block.{InLowestTerms, date_real, bias_lowest, bias_small}
 
@@ -158,19 +158,15 @@ module _ (img out : List ℕ) where
 
 -- ---- The line
 
-pub answer_limit : (img out : List ℕ) → length (answer_text (photo img out)) ≤ 61
-answer_limit img out = go (photo img out) refl
+-- No line is longer than 62 bytes.
+pub line_limit : (img out : List ℕ) → length (line_text (photo img out)) ≤ 62
+line_limit img out = go (photo img out) refl
   where
-    go : (o : Outcome Capture) → photo img out ≡ o → length (answer_text o) ≤ 61
-    go (fine c) e = answer_length c (photo_small img out e)
+    go : (o : Outcome Capture) → photo img out ≡ o → length (line_text o) ≤ 62
+    go (fine c) e = line_length c (photo_small img out e)
     go (refused n) e =
         let h : n < 100 = ⊎_elim (λ x. omega (arith, x.most)) (λ x. omega (arith, x.most)) (refused_by img out e) in
         le_trans (refusal_length n h) (lit≤ tt)
-
--- No line is longer than 62 bytes.
-pub line_limit : (img out : List ℕ) → length (line_text (photo img out)) ≤ 62
-unfolding line_text
-line_limit img out = simp length-append (omega (arith, answer_limit img out))
 
 -- ---- Bytes consulted
 

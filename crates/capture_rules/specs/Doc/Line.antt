@@ -1,10 +1,9 @@
--- The line that says what was read of a photograph: `answer=0 date=2023:06:14 09:26:53 bias=-1/2`, or `answer=` and the number of the refusal. Where a
--- file was named, its name comes last.
+-- The line that says what was read of a photograph: `answer=0 date=2023:06:14 09:26:53 bias=-1/2`, or `answer=` and the number of the refusal.
 use Rattle.std.specs.Prelude.{ℕ, ◌/◌, ◌%◌, List, [], ◌∷◌, ◌++◌, ℤ, pos, nat_abs}
 use Rattle.std.proofs.Math.Option.{Option, none, some}
 use Rattle.std.specs.Int.Signed.{lt_z}
 use Rattle.rules.specs.Doc.Outcomes.{if◌then◌else◌, Outcome, fine, refused}
-use Rattle.rules.specs.Doc.Text.{ascii, digit, decimal, shown}
+use Rattle.rules.specs.Doc.Text.{ascii, digit, decimal}
 use Rattle.rules.specs.Doc.Listing.{newline, named}
 use Rattle.capture_rules.specs.Doc.Time.{Time}
 use Rattle.capture_rules.specs.Doc.Fraction.{Fraction}
@@ -32,25 +31,6 @@ unfoldable pub bias_text : Option Fraction → List ℕ
 bias_text none = ascii "none"
 bias_text (some f) = sign_text f.num ++ decimal (nat_abs f.num) ++ ascii "/" ++ decimal f.den
 
-unfoldable pub answer_text : Outcome Capture → List ℕ
-answer_text (refused n) = named "answer=" n
-answer_text (fine c) = ascii "answer=0 date=" ++ time_text c.time ++ ascii " bias=" ++ bias_text c.bias
-
--- the number that a line tells
-unfoldable pub line_number : Outcome Capture → ℕ
-line_number (refused n) = n
-line_number (fine c) = 0
-
 unfoldable pub line_text : Outcome Capture → List ℕ
-line_text o = answer_text o ++ newline
-
--- the end of the line of a named file
-unfoldable pub file_text : List ℕ → List ℕ
-file_text name = ascii " file=" ++ shown name ++ newline
-
-unfoldable pub file_line : Outcome Capture → List ℕ → List ℕ
-file_line o name = answer_text o ++ file_text name
-
--- of a file that was not read
-unfoldable pub unread_line : List ℕ → List ℕ
-unread_line name = ascii "unread" ++ file_text name
+line_text (refused n) = named "answer=" n ++ newline
+line_text (fine c) = ascii "answer=0 date=" ++ time_text c.time ++ ascii " bias=" ++ bias_text c.bias ++ newline

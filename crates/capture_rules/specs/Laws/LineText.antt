@@ -1,4 +1,4 @@
--- How long the text of an answer is: at most 61 bytes of a date and a bias of 32 bits, at most 9 of a refusal. And which letters the two digits are.
+-- How long the line is: at most 62 bytes of a date and a bias of 32 bits, at most 10 of a refusal. And which letters the two digits are.
 use Rattle.std.specs.Prelude.{◌≡◌, refl, ℕ, ◌+◌, ◌/◌, ◌%◌, ◌^◌, ◌≤◌, ◌<◌, List, [], ◌∷◌, length, ℤ, pos, nat_abs}
 use Rattle.std.proofs.Common.{arith, length-append, lit≤, lt-ltb}
 use Rattle.std.proofs.Math.Option.{Option, none, some}
@@ -10,7 +10,7 @@ use Rattle.rules.specs.Laws.Text.{two_digits, ten_digits}
 use Rattle.capture_rules.specs.Doc.Time.{Time}
 use Rattle.capture_rules.specs.Doc.Fraction.{Fraction}
 use Rattle.capture_rules.specs.Doc.Capture.{Capture}
-use Rattle.capture_rules.specs.Doc.Line.{two, time_text, sign_text, bias_text, answer_text}
+use Rattle.capture_rules.specs.Doc.Line.{two, time_text, sign_text, bias_text, line_text}
 
 -- ---- The date
 
@@ -41,12 +41,12 @@ bias_length (some f) (n, d) =
     let below = ten_digits f.den (omega arith) in
     simp length-append (omega (arith, sign_length f.num))
 
--- ---- The answer
+-- ---- The line
 
-pub answer_length : (c : Capture) → Small c.bias → length (answer_text (fine c)) ≤ 61
-unfolding answer_text
-answer_length c s = simp length-append (omega (arith, time_length c.time, bias_length c.bias s))
+pub line_length : (c : Capture) → Small c.bias → length (line_text (fine c)) ≤ 62
+unfolding line_text
+line_length c s = simp length-append (omega (arith, time_length c.time, bias_length c.bias s))
 
-pub refusal_length : (n : ℕ) → n < 100 → length (answer_text (refused n)) ≤ 9
-unfolding answer_text
+pub refusal_length : (n : ℕ) → n < 100 → length (line_text (refused n)) ≤ 10
+unfolding line_text
 refusal_length n h = simp length-append (omega (arith, two_digits n h))

@@ -9,11 +9,17 @@ use Rattle.cases.proofs.one.Tie as tie
 next_case_requires : tie.Need-next-case-requires
 next_case_requires c κs = search rules
 
-enum_known_status : tie.Need-enum-known-status
-enum_known_status c = search rules
-
 enum_known_kind : tie.Need-enum-known-kind
 enum_known_kind c = search rules
+
+enum_told : tie.Need-enum-told
+enum_told c = search rules
+
+same_length : tie.Need-same-length
+same_length c = search rules
+
+returns : tie.Need-returns
+returns c = search rules
 
 -- both lengths are within the buffers
 within : (c : tie.After-kind)
@@ -37,23 +43,11 @@ slice_aggregate_show_2 c = first_part _ _ (within c.before.before.before).1
 show_requires : tie.Need-show-requires
 show_requires c κs = search rules
 
-same_length : tie.Need-same-length
-same_length c = search rules
-
 same_length_2 : tie.Need-same-length-2
 same_length_2 c = search rules
 
 same_length_3 : tie.Need-same-length-3
 same_length_3 c = search rules
-
-returns : tie.Need-returns
-returns c = search rules
-
-slice_aggregate_lost : tie.Need-slice-aggregate-lost
-slice_aggregate_lost c = search rules
-
-lost_requires : tie.Need-lost-requires
-lost_requires c κs = search rules
 
 same_length_4 : tie.Need-same-length-4
 same_length_4 c = search rules
@@ -61,39 +55,21 @@ same_length_4 c = search rules
 returns_2 : tie.Need-returns-2
 returns_2 c = search rules
 
-same_length_5 : tie.Need-same-length-5
-same_length_5 c = search rules
-
-same_length_6 : tie.Need-same-length-6
-same_length_6 c = search rules
-
-same_length_7 : tie.Need-same-length-7
-same_length_7 c = search rules
-
-returns_3 : tie.Need-returns-3
-returns_3 c = search rules
-
 pub one_spec : {M : Type 1} → statement M
 one_spec =
     tie.close
     (tie.spec
     next_case_requires
-    enum_known_status
     enum_known_kind
+    enum_told
+    same_length
+    returns
     slice_reshare_prefix_show
     slice_aggregate_show
     slice_relend_prefix_show
     slice_aggregate_show_2
     show_requires
-    same_length
     same_length_2
     same_length_3
-    returns
-    slice_aggregate_lost
-    lost_requires
     same_length_4
-    returns_2
-    same_length_5
-    same_length_6
-    same_length_7
-    returns_3)
+    returns_2)

@@ -1,5 +1,5 @@
--- What a line of text is made of: letters, numbers as digits, and names.
-use Rattle.std.specs.Prelude.{ℕ, zero, suc, ◌+◌, ◌/◌, ◌%◌, Bool, ◌&&◌, ◌||◌, List, [], ◌∷◌, ◌++◌, map, leb, ltb, eqb}
+-- What a line of text is made of: letters, and numbers as digits.
+use Rattle.std.specs.Prelude.{ℕ, zero, suc, ◌+◌, ◌/◌, ◌%◌, Bool, ◌&&◌, List, [], ◌∷◌, ◌++◌, leb, ltb}
 use Prim.Native.Char.{code}
 use Prim.Native.String.{String}
 use Prim.Native.String as string
@@ -31,10 +31,3 @@ decimal_to (suc k) n = if ltb n 10 then digit n ∷ [] else decimal_to k (n / 10
 -- a plain decimal number without leading zeros; it has no more than n + 1 digits
 unfoldable pub decimal : ℕ → List ℕ
 decimal n = decimal_to n n
-
--- a byte of a name as it is printed: `?` for one that would end the line, or do something on a screen
-unfoldable pub shown_byte : ℕ → ℕ
-shown_byte b = if ltb b 32 || eqb b 127 then 63 else b
-
-unfoldable pub shown : List ℕ → List ℕ
-shown name = map shown_byte name

@@ -10,7 +10,7 @@ use Rattle.rules.specs.Laws.Text.{two_digits, five_digits}
 use Rattle.rules.specs.Laws.Rows.{both_true}
 use Rattle.sheet_rules.specs.Doc.Rows.{row_text}
 use Rattle.sheet_rules.specs.Doc.Lines.{Entry, line_names, line_text, allowed, entry_of, entry_in}
-use Rattle.rules.specs.Laws.Same.{same_is, same_self}
+use Rattle.sheet_rules.specs.Laws.Same.{same_is, same_self}
 use Rattle.sheet_rules.specs.Laws.Rows.{line_names_is, numbers_back, Flat, row_flat}
 
 -- ---- What is allowed

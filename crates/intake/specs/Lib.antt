@@ -1,0 +1,2 @@
+-- What the program may count on.
+pub mod Within
