@@ -1,5 +1,7 @@
 // The line that says what extraction answered for a case, as text in a lent buffer. Each function puts its text from a position on, as much as there
 // is room for, and answers the place behind the last byte.
+#![tactic(auto)]
+
 ghost use Rattle.std.specs.Prelude.{◌≡◌, ◌%◌};
 ghost use Rattle.rules.specs.Doc.Text.{digit, hex};
 ghost use Rattle.rules.specs.Doc.Listing.{printed};

@@ -1,5 +1,7 @@
 // The two numbers that every line about an answer begins with, `answer=N length=L`, as text in a lent buffer. Each function puts its text as far as
 // there is room, and answers the place behind the last byte.
+#![tactic(auto)]
+
 ghost use Rattle.std.specs.Prelude.{ℕ, List};
 ghost use Rattle.rules.specs.Doc.Text.{decimal};
 ghost use Rattle.output.specs.Told.{told};

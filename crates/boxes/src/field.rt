@@ -7,7 +7,7 @@ use crate::left;
 use crate::refusal::Refusal;
 
 // A number that was read, or why there is none: one type for every width.
-#[derive(Drop)]
+#[derive(Clone, Copy)]
 pub enum Number {
     Got(u64),
     Refused(Refusal),

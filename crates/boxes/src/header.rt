@@ -6,7 +6,7 @@ ghost use Rattle.boxes.specs.Told.{announces};
 use crate::left;
 
 // A header: cut by the end, of a size that no box has, or read, with the type, where the body begins, and its size.
-#[derive(Drop)]
+#[derive(Clone, Copy)]
 pub enum Header {
     Cut,
     Invalid,

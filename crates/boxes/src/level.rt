@@ -7,7 +7,7 @@ use crate::header::Header;
 use crate::refusal::Refusal;
 
 // A box inside another: its type and where its body is, or why there is none.
-#[derive(Drop)]
+#[derive(Clone, Copy)]
 pub enum Child {
     Whole { kind: u32, from: usize, to: usize },
     Refused(Refusal),
@@ -46,7 +46,7 @@ pub const IINF: u32 = 0x69696e66;
 const LARGE: u64 = 0x8000_0000_0000_0000;
 
 // A box of a file: its body may run past the end.
-#[derive(Drop)]
+#[derive(Clone, Copy)]
 pub enum FileBox {
     Found { kind: u32, from: usize, size: u64 },
     Refused(Refusal),

@@ -1,4 +1,6 @@
 // Boxes in a slice: refusals, headers, a box at each level, and the fields of a box.
+#![tactic(auto)]
+
 mod field;
 mod header;
 mod level;

@@ -4,7 +4,7 @@ ghost use Rattle.std.specs.Prelude.{◌≡◌};
 ghost use Rattle.boxes.specs.Told.{number};
 
 // Why there is no answer.
-#[derive(Drop)]
+#[derive(Clone, Copy)]
 pub enum Refusal {
     NotFound = 1,
     ImageEnds = 2,

@@ -1,4 +1,6 @@
 // The file type box: one of two brands must be among the compatible ones.
+#![tactic(auto)]
+
 ghost use Rattle.std.specs.Prelude.{◌≡◌};
 ghost use Rattle.rules.specs.Doc.Ftyp.{known, brand_test};
 ghost use Rattle.rules.specs.Doc.Heif.{is_heif};
@@ -7,7 +9,7 @@ ghost use Rattle.brands.specs.Told.{ftyp_of};
 use boxes::{Child, FTYP, Header, Refusal};
 
 // What the test of an `ftyp` says.
-#[derive(Drop)]
+#[derive(Clone, Copy)]
 pub enum Ftyp {
     Known,
     Refused(Refusal),

@@ -15,21 +15,21 @@ const EXPOSURE_BIAS_VALUE: u16 = 0x9204;
 const SRATIONAL: u16 = 10;
 
 // No entry is no refusal: so a bias can be missing.
-#[derive(Drop)]
+#[derive(Clone, Copy)]
 pub enum Bias {
     Missing,
     Known(Fraction),
 }
 
 // The fraction of an entry, or why it has none.
-#[derive(Drop)]
+#[derive(Clone, Copy)]
 pub(crate) enum Ratio {
     Known(Fraction),
     Refused(Fault),
 }
 
 // What the Exif directory says of the bias (that it is missing, too), or why it is refused.
-#[derive(Drop)]
+#[derive(Clone, Copy)]
 pub(crate) enum Biased {
     Read(Bias),
     Refused(Fault),

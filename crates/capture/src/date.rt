@@ -14,7 +14,7 @@ const DATE_TIME_ORIGINAL: u16 = 0x9003;
 const ASCII: u16 = 2;
 
 // The date, or why there is none.
-#[derive(Drop)]
+#[derive(Clone, Copy)]
 pub(crate) enum Dated {
     Taken(Time),
     Refused(Fault),

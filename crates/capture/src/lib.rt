@@ -1,5 +1,7 @@
 // When a picture was taken, and its exposure bias: from an Exif block, or from an image by way of its block. Each step has an enum of its own for its
 // answer, in the place of Rust's `Result`.
+#![tactic(auto)]
+
 mod bias;
 mod date;
 mod entry;
@@ -21,21 +23,21 @@ use output::Extracted;
 use pointer::{Pointer, exif_at};
 use tiff::{Directory, Fault, Header};
 
-#[derive(Drop)]
+#[derive(Clone, Copy)]
 pub struct Capture {
     pub time: Time,
     pub bias: Bias,
 }
 
 // What was read of a block, or why it was refused.
-#[derive(Drop)]
+#[derive(Clone, Copy)]
 pub enum Captured {
     Read(Capture),
     Refused(Fault),
 }
 
 // What was read; or why extraction handed out no block (28 too: the block is longer than the buffer); or why the block was refused.
-#[derive(Drop)]
+#[derive(Clone, Copy)]
 pub enum Photo {
     Read(Capture),
     NoBlock(Refusal),

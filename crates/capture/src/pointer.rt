@@ -13,7 +13,7 @@ const EXIF_POINTER: u16 = 0x8769;
 const LONG: u16 = 4;
 
 // Where the Exif directory is, or why that isn't known.
-#[derive(Drop)]
+#[derive(Clone, Copy)]
 pub(crate) enum Pointer {
     To(usize),
     Refused(Fault),

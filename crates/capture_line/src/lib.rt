@@ -1,4 +1,6 @@
 // The line that says what was read of a photograph, as text in a lent buffer.
+#![tactic(auto)]
+
 mod bias;
 mod time;
 

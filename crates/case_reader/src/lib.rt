@@ -1,12 +1,14 @@
 // A run of cases on standard input. A case is a byte that names its kind, the image's length and the output's length, four bytes each, big-endian,
 // then the image.
+#![tactic(auto)]
+
 ghost use Rattle.std.specs.Prelude.{◌≡◌, length, replicate};
 ghost use Rattle.case_reader.specs.Within.{Within};
 
 use libc::{STDIN_FILENO, STDOUT_FILENO};
 
 // The kind and the two lengths of a case; or the run is over.
-#[derive(Drop)]
+#[derive(Clone, Copy)]
 pub enum Next {
     Case {
         kind: u8,

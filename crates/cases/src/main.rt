@@ -1,5 +1,7 @@
 // Asks the proved functions a run of cases, one behind the other, and prints what each answers: stored runs, comparisons with other readers and
 // anyone's own files all go this way. docs/MAP.md, "Runs of cases", has the form of a case, the kinds and their lines.
+#![tactic(auto)]
+
 use case_reader::Next;
 use libc::STDOUT_FILENO;
 use listing::LONGEST_TEXT;

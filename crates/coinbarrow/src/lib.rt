@@ -1,4 +1,6 @@
 // The functions for C and Rust, which include/coinbarrow.h declares.
+#![tactic(auto)]
+
 ghost use Rattle.std.specs.Prelude.{◌≡◌, List, [], ℕ, ◌/◌, ◌%◌, ◌^◌, ◌<◌, length};
 ghost use Rattle.rules.specs.Doc.Answers.{answer};
 ghost use Rattle.rules.specs.Doc.Heif.{is_heif};

@@ -1,4 +1,6 @@
 // A date and a time of day from twenty bytes.
+#![tactic(auto)]
+
 ghost use Rattle.std.specs.Prelude.{true, ◌≡◌};
 ghost use Rattle.capture_rules.specs.Doc.Time.{between, pattern, alike, time_in, time};
 ghost use Rattle.dates.specs.Told.{time_of, parsed_of};
@@ -6,7 +8,7 @@ ghost use Rattle.dates.specs.Told.{time_of, parsed_of};
 mod calendar;
 mod shape;
 
-#[derive(Drop)]
+#[derive(Clone, Copy)]
 pub struct Time {
     pub year: u16,
     pub month: u8,
@@ -17,7 +19,7 @@ pub struct Time {
 }
 
 // Where there is no such date and time, the one refusal is 37.
-#[derive(Drop)]
+#[derive(Clone, Copy)]
 pub enum Parsed {
     Taken(Time),
     NotATime,

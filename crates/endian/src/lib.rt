@@ -1,11 +1,13 @@
 // Loads at a position of a slice: in either byte order, or big-endian, as all fields of boxes are.
+#![tactic(auto)]
+
 ghost use Rattle.std.specs.Prelude.{◌≡◌, ◌+◌, ◌^◌, ◌≤◌, ◌<◌, length};
 ghost use Rattle.rules.specs.Doc.Bytes.{number_at};
 ghost use Rattle.rules.specs.Doc.Endian.{place_in, number_in};
 ghost use Rattle.endian.specs.Told.{endian_of};
 
 // Which byte is the highest: the first, or the last.
-#[derive(Drop)]
+#[derive(Clone, Copy)]
 pub enum Endian {
     Big,
     Little,

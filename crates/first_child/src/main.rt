@@ -1,4 +1,6 @@
 // The first child of an image's bytes and of parts of them, and how many children there are: what the splitter's `children` says, for file H.
+#![tactic(auto)]
+
 use boxes::Child;
 use libc::{STDIN_FILENO, STDOUT_FILENO};
 

@@ -1,10 +1,12 @@
 // Signed fractions in lowest terms.
+#![tactic(auto)]
+
 ghost use Rattle.std.specs.Prelude.{◌≡◌, ◌≤◌, ◌^◌, pos, nat_abs};
 ghost use Rattle.capture_rules.specs.Doc.Fraction as doc;
 ghost use Rattle.fraction.specs.Told.{fraction_of};
 
 // The sign is the numerator's. 64 bits, since -2^31 over -1 is 2^31.
-#[derive(Drop)]
+#[derive(Clone, Copy)]
 pub struct Fraction {
     pub num: i64,
     pub den: u64,

@@ -1,5 +1,7 @@
 // Prints a line for each file that its arguments name, HEIF or JPEG: what extraction answers for it, in the shape that the morning sheet reads. Of a
 // file that can't be read, or is too long, it says so on standard error, and goes on with the next.
+#![tactic(auto)]
+
 ghost use Rattle.std.specs.Prelude.{length};
 ghost use Rattle.intake.specs.Within.{Within};
 
@@ -13,7 +15,7 @@ const LONGEST: usize = 6291456;
 const MOST_IMAGE: usize = LONGEST + 1;
 
 // How many bytes a file has; or it was not read, and why was said.
-#[derive(Drop)]
+#[derive(Clone, Copy)]
 enum Read {
     Whole(usize),
     Unread,

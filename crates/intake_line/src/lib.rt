@@ -1,4 +1,6 @@
 // The line that the intake writes for a file, HEIF or JPEG, as text in a lent buffer.
+#![tactic(auto)]
+
 ghost use Rattle.std.specs.Prelude.{◌≡◌, List, ◌++◌, ℕ, ◌≤◌, length, drop};
 ghost use Rattle.jpeg_rules.specs.Doc.Either.{either_answer};
 ghost use Rattle.sheet_rules.specs.Doc.Lines.{line_text};

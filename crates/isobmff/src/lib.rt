@@ -1,4 +1,6 @@
 // The Exif block of a HEIF image.
+#![tactic(auto)]
+
 ghost use Rattle.std.specs.Prelude.{◌≡◌};
 ghost use Rattle.rules.specs.Doc.Answers.{answer};
 ghost use Rattle.rules.specs.OverBytes.{answer_of, meta_block};

@@ -15,14 +15,14 @@ const IDAT: u32 = 0x69646174;
 const CHILDREN: usize = 4;
 
 // Where the body of the last box of a type is, once one was met.
-#[derive(Drop)]
+#[derive(Clone, Copy)]
 pub(crate) enum LastBody {
     Unset,
     At { from: usize, to: usize },
 }
 
 // What all children leave, or why one is refused.
-#[derive(Drop)]
+#[derive(Clone, Copy)]
 enum Met {
     Read {
         item_id: ItemId,
@@ -71,7 +71,7 @@ fn children(body: &[u8]) -> Met
 }
 
 // What the children leave: the wanted id, where the last `iloc` is, and where the last `idat` is if there is one.
-#[derive(Drop)]
+#[derive(Clone, Copy)]
 pub(crate) enum Kept {
     Found {
         item_id: u64,

@@ -7,7 +7,7 @@ use boxes::{FTYP, FileBox, META, Refusal};
 use brands::Ftyp;
 
 // Where a body of the file ends, if the image holds all of it.
-#[derive(Drop)]
+#[derive(Clone, Copy)]
 enum Body {
     To(usize),
     Refused(Refusal),
@@ -24,7 +24,7 @@ fn read_file_level_box(image: &[u8], from: usize, size: u64) -> Body
 }
 
 // What a box leads to: the next position, with whether an `ftyp` has been checked; the body of the first `meta`; or a refusal.
-#[derive(Drop)]
+#[derive(Clone, Copy)]
 enum Next {
     On { ftyp_checked: bool, at: usize },
     Meta { from: usize, to: usize },
@@ -80,7 +80,7 @@ fn file_level_box(image: &[u8], at: usize, ftyp_checked: bool) -> Next
 }
 
 // Where the body of the first `meta` is, or why there is none.
-#[derive(Drop)]
+#[derive(Clone, Copy)]
 pub(crate) enum Top {
     Meta { from: usize, to: usize },
     Refused(Refusal),

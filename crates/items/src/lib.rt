@@ -1,4 +1,6 @@
 // The item information box: which item is the Exif one.
+#![tactic(auto)]
+
 ghost use Rattle.std.specs.Prelude.{◌≡◌, ◌+◌, ◌^◌, ◌<◌};
 ghost use Rattle.boxes.specs.Told.{field_of};
 ghost use Rattle.items.specs.Told.{id_of, ids_of};
@@ -11,14 +13,14 @@ const INFE: u32 = 0x696e6665;
 const EXIF: u64 = 0x45786966;
 
 // The wanted id, once one was met.
-#[derive(Drop)]
+#[derive(Clone, Copy)]
 pub enum ItemId {
     Unset,
     Is(u64),
 }
 
 // What an `infe` or an `iinf` leaves: the wanted id, or a refusal.
-#[derive(Drop)]
+#[derive(Clone, Copy)]
 pub enum Ids {
     Read(ItemId),
     Refused(Refusal),

@@ -11,7 +11,7 @@ use boxes::Refusal;
 use locations::Extent;
 
 // From `from` up to, not including, `to`. In the image a part may begin past the end; it is empty, with `to` below `from`.
-#[derive(Drop)]
+#[derive(Clone, Copy)]
 pub(crate) enum Place {
     Part { from: usize, to: usize },
     Refused(Refusal),

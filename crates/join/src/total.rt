@@ -11,7 +11,7 @@ use boxes::Refusal;
 use locations::Location;
 
 // The total of the extents so far, or what is refused first.
-#[derive(Drop)]
+#[derive(Clone, Copy)]
 pub(crate) enum Total {
     Sum(usize),
     Refused(Refusal),

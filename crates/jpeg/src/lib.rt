@@ -1,4 +1,6 @@
 // The Exif block of a JPEG image.
+#![tactic(auto)]
+
 ghost use Rattle.std.specs.Prelude.{◌≡◌};
 ghost use Rattle.jpeg_rules.specs.Doc.Block.{is_jpeg, jpeg_answer};
 ghost use Rattle.output.specs.Told.{told};

@@ -10,7 +10,7 @@ use boxes::Refusal;
 const SEGMENTS: usize = 2;
 
 // Where the block is, or why there is none.
-#[derive(Drop)]
+#[derive(Clone, Copy)]
 pub(crate) enum Found {
     Block { from: usize, to: usize },
     Refused(Refusal),

@@ -30,7 +30,7 @@ fn is_exif(marker: u8, body: &[u8]) -> bool
 }
 
 // Where a body ends, if the image holds all of it.
-#[derive(Drop)]
+#[derive(Clone, Copy)]
 enum Body {
     To(usize),
     Refused(Refusal),
@@ -55,7 +55,7 @@ fn body_end(image: &[u8], at: usize) -> Body
 }
 
 // What a segment leads to: the next one's position; where the block is; or a refusal. A search that ends with no block is refused too.
-#[derive(Drop)]
+#[derive(Clone, Copy)]
 pub(crate) enum Next {
     On(usize),
     Block { from: usize, to: usize },

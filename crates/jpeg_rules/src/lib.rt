@@ -1,1 +1,2 @@
 // Request three, JPEG, as definitions: they are in specs/, and there is no code here.
+#![tactic(auto)]

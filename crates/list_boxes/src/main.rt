@@ -1,4 +1,6 @@
 // Lists the boxes of the image on standard input: the library's text, as it is.
+#![tactic(auto)]
+
 ghost use Rattle.std.specs.Prelude.{◌≤◌, length};
 
 use libc::{STDIN_FILENO, STDOUT_FILENO};

@@ -1,4 +1,6 @@
 // The listing of an image's boxes, as text in a lent buffer: one function lists a run of boxes, the other opens one box, and they call each other.
+#![tactic(auto)]
+
 mod line;
 mod opening;
 
@@ -22,7 +24,7 @@ pub const LONGEST_TEXT: usize = 7 * LONGEST + 19;
 const DEEPEST: usize = 8;
 
 // A box: where it starts, its type, and where its body is.
-#[derive(Drop)]
+#[derive(Clone, Copy)]
 pub(crate) struct Found {
     start: usize,
     kind: u32,
@@ -31,7 +33,7 @@ pub(crate) struct Found {
 }
 
 // How much text is written, past the end of the buffer too; and, at a fault, the start of the box that couldn't be read or opened, and why.
-#[derive(Drop)]
+#[derive(Clone, Copy)]
 pub(crate) enum Listed {
     Finished(usize),
     Fault {

@@ -34,7 +34,7 @@ fn holds_boxes(kind: u32) -> bool
 }
 
 // Where the children of a box start, if it is opened.
-#[derive(Drop)]
+#[derive(Clone, Copy)]
 pub(crate) enum Inner {
     Leaf,
     Children(usize),

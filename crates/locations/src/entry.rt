@@ -14,7 +14,7 @@ use crate::{extent, table};
 use boxes::{Number, Refusal};
 
 // An item's entry: its numbers, how many extents it has, and where the first one is.
-#[derive(Drop)]
+#[derive(Clone, Copy)]
 pub struct Entry {
     pub item_id: u64,
     pub construction_method: u64,
@@ -23,7 +23,7 @@ pub struct Entry {
     pub extents_at: usize,
 }
 
-#[derive(Drop)]
+#[derive(Clone, Copy)]
 pub(crate) enum Parsed {
     Read(Entry),
     Refused(Refusal),
@@ -112,7 +112,7 @@ pub(crate) fn parse_entry(body: &[u8], table: Table, at: usize) -> Parsed
 }
 
 // Where an entry's extents end, or why they are refused.
-#[derive(Drop)]
+#[derive(Clone, Copy)]
 pub(crate) enum Past {
     To(usize),
     Refused(Refusal),

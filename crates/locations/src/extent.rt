@@ -9,7 +9,7 @@ ghost use Rattle.locations.specs.Told.{sizes_in, extent_in, read_of};
 use boxes::{Number, Refusal};
 
 // The sizes of an extent's three numbers.
-#[derive(Drop)]
+#[derive(Clone, Copy)]
 pub struct Sizes {
     pub index: usize,
     pub offset: usize,
@@ -17,13 +17,13 @@ pub struct Sizes {
 }
 
 // An extent. Its index is read and judged, but has no further use, so it isn't kept.
-#[derive(Drop)]
+#[derive(Clone, Copy)]
 pub struct Extent {
     pub offset: u64,
     pub length: u64,
 }
 
-#[derive(Drop)]
+#[derive(Clone, Copy)]
 pub(crate) enum Read {
     Got(Extent),
     Refused(Refusal),

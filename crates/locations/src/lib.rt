@@ -1,4 +1,6 @@
 // The item location box `iloc`: where the bytes of an item are.
+#![tactic(auto)]
+
 mod entry;
 mod extent;
 mod table;
@@ -17,20 +19,20 @@ pub use extent::{Extent, Sizes};
 use table::{Head, Table};
 
 // Where an item is: its entry, and the sizes by which its extents are read again.
-#[derive(Drop)]
+#[derive(Clone, Copy)]
 pub struct Location {
     pub sizes: Sizes,
     pub entry: Entry,
 }
 
-#[derive(Drop)]
+#[derive(Clone, Copy)]
 pub enum Iloc {
     Found(Location),
     Refused(Refusal),
 }
 
 // The last wanted entry so far.
-#[derive(Drop)]
+#[derive(Clone, Copy)]
 enum Last {
     Unset,
     Wanted(Entry),

@@ -10,7 +10,7 @@ use crate::extent::Sizes;
 use boxes::{Number, Refusal};
 
 // How the entries are read, how many there are, and where the first one is.
-#[derive(Drop)]
+#[derive(Clone, Copy)]
 pub(crate) struct Table {
     pub version: u64,
     pub sizes: Sizes,
@@ -19,7 +19,7 @@ pub(crate) struct Table {
     pub items_at: usize,
 }
 
-#[derive(Drop)]
+#[derive(Clone, Copy)]
 pub(crate) enum Head {
     Read(Table),
     Refused(Refusal),

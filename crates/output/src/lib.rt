@@ -1,4 +1,6 @@
 // The answer of extraction, whatever kind of image the block is from; the copy of bytes to the output, and the room for them.
+#![tactic(auto)]
+
 ghost use Rattle.std.specs.Prelude.{◌≡◌, drop};
 ghost use Rattle.rules.specs.Doc.Outcomes.{fine};
 ghost use Rattle.rules.specs.OverBytes.{answer_of};
@@ -8,7 +10,7 @@ ghost use Rattle.output.specs.Copied.{Copied};
 use boxes::Refusal;
 
 // The block's length; the length that is needed, where there is no room; or why there is no block.
-#[derive(Drop)]
+#[derive(Clone, Copy)]
 pub enum Extracted {
     Done(usize),
     NoRoom(usize),

@@ -1,4 +1,6 @@
 // Says when the picture on standard input was taken, and its exposure bias: one line.
+#![tactic(auto)]
+
 use libc::{STDERR_FILENO, STDIN_FILENO};
 
 // The longest image that is read.

@@ -1,4 +1,6 @@
 // The Exif block of a photograph, HEIF or JPEG: for callers that have either.
+#![tactic(auto)]
+
 ghost use Rattle.std.specs.Prelude.{◌≡◌};
 ghost use Rattle.jpeg_rules.specs.Doc.Either.{either_answer};
 ghost use Rattle.output.specs.Told.{told};

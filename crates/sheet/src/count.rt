@@ -6,7 +6,7 @@ ghost use Rattle.sheet.specs.Counting.{CountedOf};
 use sheet_line::{Line, read_line};
 
 // The totals; or the number of the line that refuses them all.
-#[derive(Drop)]
+#[derive(Clone, Copy)]
 pub(crate) enum Counted {
     Sum {
         files: usize,

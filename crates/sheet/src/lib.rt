@@ -1,4 +1,6 @@
 // The morning sheet: the sum of the lines that the intake wrote, as text in a lent buffer.
+#![tactic(auto)]
+
 mod count;
 mod print;
 

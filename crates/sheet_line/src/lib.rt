@@ -1,17 +1,19 @@
 // A line that the intake wrote, read byte by byte: exactly `answer=A length=L` and a newline, or another shape.
+#![tactic(auto)]
+
 ghost use Rattle.std.specs.Prelude.{◌≡◌, [], ◌≤◌};
 ghost use Rattle.sheet_line.specs.Numbers.{starts, Digit, Named};
 ghost use Rattle.sheet_line.specs.Shape.{most_length, LineAt};
 
 // A number, and how many bytes it and what stands before it take; or something else stands there.
-#[derive(Drop)]
+#[derive(Clone, Copy)]
 enum Number {
     Value { n: usize, end: usize },
     Other,
 }
 
 // What a line says, and how many bytes it has; or it is of another shape.
-#[derive(Drop)]
+#[derive(Clone, Copy)]
 pub enum Line {
     Entry {
         answer: usize,

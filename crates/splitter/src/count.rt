@@ -10,7 +10,7 @@ use crate::splitter::BoxSplitter;
 use boxes::{Child, Header, Number};
 
 // The first child of some bytes, and how many whole ones there are before a fault or the end. (`Children` beside `children` would be one name.)
-#[derive(Drop)]
+#[derive(Clone, Copy)]
 pub struct Counted {
     pub first: Child,
     pub count: usize,

@@ -7,7 +7,7 @@ ghost use Rattle.splitter.specs.Front.{as_sized, sized_front, full_box_at, array
 use boxes::{Number, Refusal};
 
 // A number of 0, 4 or 8 bytes. Another size is no refusal here: the Rust has `None` for it, and each of its callers another message.
-#[derive(Drop)]
+#[derive(Clone, Copy)]
 pub enum Sized {
     Got(u64),
     Other,
@@ -15,7 +15,7 @@ pub enum Sized {
 }
 
 // The version and the flags that a full box starts with.
-#[derive(Drop)]
+#[derive(Clone, Copy)]
 pub enum FullBox {
     Got { version: u32, flags: u32 },
     Refused(Refusal),
@@ -23,7 +23,7 @@ pub enum FullBox {
 
 // Four bytes, and that there were four. (No function over an enum that holds an array is proved by the kit's own means.) Where they are refused none was
 // read, and all are 0.
-#[derive(Drop)]
+#[derive(Clone, Copy)]
 pub struct Array4 {
     pub told: Number,
     pub bytes: [u8; 4],

@@ -1,4 +1,6 @@
 // `BoxSplitter`: the rest of a box's bytes, in a struct that answers and moves on.
+#![tactic(auto)]
+
 mod behind;
 mod count;
 mod front;

@@ -1,5 +1,7 @@
 // Text into a lent buffer. Each function writes from a position on, as much as there is room for, and answers the place behind its text, past the
 // end of a buffer that is too short. So of texts one behind the other, from 0 on, the last place is the length of them all.
+#![tactic(auto)]
+
 ghost use Rattle.std.specs.Prelude.{◌≡◌, ◌+◌, ◌^◌, ◌<◌, [], ◌∷◌, ◌++◌, length};
 ghost use Rattle.rules.specs.Doc.Text.{digit, hex, decimal};
 ghost use Rattle.text.specs.Wrote.{Wrote};

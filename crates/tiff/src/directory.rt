@@ -11,14 +11,14 @@ use endian::Endian;
 const ENTRY: usize = 12;
 
 // Where the entries begin, and how many there are.
-#[derive(Drop)]
+#[derive(Clone, Copy)]
 pub enum Directory {
     Entries { from: usize, count: usize },
     Refused(Fault),
 }
 
 // An entry's type, how many values it has, and where they stand.
-#[derive(Drop)]
+#[derive(Clone, Copy)]
 pub enum Found {
     Missing,
     Entry { kind: u16, count: u32, place: usize },

@@ -3,7 +3,7 @@ ghost use Rattle.std.specs.Prelude.{◌≡◌};
 ghost use Rattle.tiff.specs.Told.{number};
 
 // One enum for the two crates that read a block, this one and `capture`, so that each number stands once.
-#[derive(Drop)]
+#[derive(Clone, Copy)]
 pub enum Fault {
     Header = 34,
     Outside = 35,

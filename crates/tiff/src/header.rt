@@ -8,7 +8,7 @@ ghost use Rattle.tiff.specs.Headers.{header_in};
 use crate::fault::Fault;
 use endian::Endian;
 
-#[derive(Drop)]
+#[derive(Clone, Copy)]
 pub enum Header {
     Read { order: Endian, first: usize },
     Refused(Fault),

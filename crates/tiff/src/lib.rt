@@ -1,4 +1,6 @@
 // An Exif block is laid out like a TIFF file: a header, and directories. This crate reads those; which entries are wanted is for `capture`.
+#![tactic(auto)]
+
 mod directory;
 mod fault;
 mod header;

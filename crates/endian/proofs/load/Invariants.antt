@@ -1,0 +1,17 @@
+-- `num` is the number that the `i` highest digits make. It is below 256^i, so up to eight bytes never overflow. The measure is the bytes that are
+-- still to come. Where a digit stands is left to `place`.
+use borrow.Author.Rules.{rules}
+use mathlib.Core.Path.{◌≡◌, refl}
+use Prim.Native.Nat.{◌≤◌, ◌-◌}
+use native.Mathlib.Omega.{arith}
+use native.Mathlib.Numerals.{add-one}
+use Rattle.rules.specs.Doc.Endian.{number_of, number_in}
+use Rattle.rules.specs.Laws.Endian.{digits_in, digits_room, number_in_below}
+use Rattle.endian.specs.Told.{endian_of}
+use Rattle.endian.proofs.load.Given as goal
+
+abbrev pub invariant-loop-i : goal.invariant-loop-i
+invariant-loop-i l = (l.i ≤ l.n) × (l.num ≡ number_of (digits_in (endian_of l.order) l.buf l.from l.n) l.i)
+
+abbrev pub decreases-loop-i : goal.decreases-loop-i
+decreases-loop-i l = l.n - l.i
