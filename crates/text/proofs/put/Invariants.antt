@@ -1,0 +1,16 @@
+-- The bytes up to `i` are written, each turn writes one more behind them, and at the end these are all.
+use mathlib.Core.Path.{◌≡◌, refl, ◌∙◌}
+use Prim.Native.Nat.{◌-◌, ◌≤◌}
+use native.Mathlib.Omega.{arith}
+use lib.ListN.{length, take}
+use lib.Seq.{length-take-le, take_all}
+use borrow.Author.Rules.{rules}
+use Rattle.text.specs.Wrote.{Wrote, wrote_none, wrote_more}
+use Rattle.text.proofs.put.Given as goal
+
+abbrev pub invariant-loop-i : goal.invariant-loop-i
+invariant-loop-i l =
+    (l.i ≤ length l.part) × (length l.out ≡ length l.initial.out) × Wrote (take l.i l.part) l.at l.initial.out l.end l.out
+
+abbrev pub decreases-loop-i : goal.decreases-loop-i
+decreases-loop-i l = length l.part - l.i
