@@ -10,8 +10,7 @@ use borrow.Author.Rules.{rules, sfits_of}
 use Rattle.capture_rules.specs.Doc.Fraction.{gcd, opposite}
 use Rattle.capture_rules.specs.Laws.Lowest.{divisor_above, lowest_by}
 use Rattle.fraction.proofs.Wide.{small32}
-use Rattle.fraction.proofs.lowest.Statement.{statement}
-use Rattle.fraction.proofs.lowest.Tie as tie
+use Rattle.fraction.proofs.lowest.Goals as goal
 
 -- what is known with the divisor
 module _ (c : tie.After-gcd) where
@@ -45,38 +44,16 @@ module _ (c : tie.After-gcd) where
   not_zero : 0 < c.gcd.result
   not_zero = rw divisor (divisor_above num den start.pre)
 
-magnitude_requires : tie.Need-magnitude-requires
-magnitude_requires c κs = search rules
+-- OLD div_above : tie.Need-nonzero-div-above
+-- div_above c = not_zero c
 
-magnitude_requires_2 : tie.Need-magnitude-requires-2
-magnitude_requires_2 c κs = search rules
+-- OLD div_below : tie.Need-nonzero-div-below
+-- div_below c = not_zero c
 
-gcd_requires : tie.Need-gcd-requires
-gcd_requires c κs = search rules
+pub with_sign-requires : goal.with_sign-requires
+with_sign-requires c = rw (num_size c) (le_trans (div-le_self _ c.gcd-g.result) (small32 (start c).ranges.num).small)
 
-div_above : tie.Need-nonzero-div-above
-div_above c = not_zero c
-
-div_below : tie.Need-nonzero-div-below
-div_below c = not_zero c
-
-with_sign_requires : tie.Need-with-sign-requires
-with_sign_requires c κs = rw (num_size c) (le_trans (div-le_self _ c.gcd.result) (small32 (start c).ranges.num).small)
-
-returns : tie.Need-returns
+pub returns : goal.returns
 returns c =
-    let d = c.before in
-    let kept = to_z-of_z w64 c.with-sign.result (sfits_of c.with-sign.type-inv) in
-    lowest_by (num d) (den d) (num_size d) (den_size d) d.gcd.ensures (signs d) (kept ∙ c.with-sign.ensures)
-
-pub lowest_spec : {M : Type 1} → statement M
-lowest_spec =
-    tie.close
-    (tie.spec
-    magnitude_requires
-    magnitude_requires_2
-    gcd_requires
-    div_above
-    div_below
-    with_sign_requires
-    returns)
+    let kept = to_z-of_z w64 c.with_sign.result (sfits_of c.with_sign.type-inv) in
+    lowest_by (num c) (den c) (num_size c) (den_size c) c.gcd-g.ensures (signs c) (kept ∙ c.with_sign.ensures)

@@ -8,8 +8,7 @@ use mir.Val.{to_z}
 use mir.ValLaws.{to_z_pos}
 use borrow.Author.Rules.{rules}
 use Rattle.fraction.proofs.Wide.{Small, neg_fits, read_neg}
-use Rattle.fraction.proofs.with_sign.Statement.{statement}
-use Rattle.fraction.proofs.with_sign.Tie as tie
+use Rattle.fraction.proofs.with_sign.Goals as goal
 
 read : (s : tie.Start) → to_z w64 s.args.size ≡ pos s.args.size
 read s = to_z_pos w64 s.args.size (lt_of_le_of_lt s.requires (lit< tt))
@@ -17,17 +16,11 @@ read s = to_z_pos w64 s.args.size (lt_of_le_of_lt s.requires (lit< tt))
 small : (s : tie.Start) → Small (pos s.args.size)
 small s = record { small = s.requires }
 
-cast_wide : tie.Need-overflow-cast-wide
-cast_wide c = search rules
+pub overflow_sub-result : goal.overflow_sub-result
+overflow_sub-result c = rw (read c) (neg_fits (small c))
 
-sub_result : tie.Need-overflow-sub-result
-sub_result c = rw (read c.before) (neg_fits (small c.before))
+pub returns-then-negative : goal.returns-then-negative
+returns-then-negative c = rw (read c, read_neg (small c), c.if-negative.true)
 
-returns : tie.Need-returns
-returns c = rw (read c.before, read_neg (small c.before), c.if1.true)
-
-returns_2 : tie.Need-returns-2
-returns_2 c = rw (read c.before, c.if1.false)
-
-pub with_sign_spec : {M : Type 1} → statement M
-with_sign_spec = tie.close (tie.spec cast_wide sub_result returns returns_2)
+pub returns-else-negative : goal.returns-else-negative
+returns-else-negative c = rw (read c, c.if-negative.false)

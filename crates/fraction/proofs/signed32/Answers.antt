@@ -12,8 +12,7 @@ use borrow.Author.Rules.{rules}
 use borrow.Author.Tests.{lt-ltb}
 use Rattle.capture_rules.specs.Laws.Signs.{signed32_low, signed32_high}
 use Rattle.fraction.proofs.Wide.{small32, fits64}
-use Rattle.fraction.proofs.signed32.Statement.{statement}
-use Rattle.fraction.proofs.signed32.Tie as tie
+use Rattle.fraction.proofs.signed32.Goals as goal
 
 high_fits : (n : ℕ) → 2 ^ 31 ≤ n → n < 2 ^ 32 → SFits w32 (pos n -ℤ pos (2 ^ 32))
 high_fits n h k = rw (lt-ltb n (2 ^ 32) k) (record { sfits = omega arith })
@@ -29,26 +28,16 @@ module _ (c : tie.Else1) where
   fits : SFits w32 (pos n -ℤ pos (2 ^ 32))
   fits = high_fits n c.if1.false c.before.ranges.n.fits
 
-cast_result : tie.Need-overflow-cast-result
-cast_result c = search rules
+pub overflow_sub-result : goal.overflow_sub-result
+overflow_sub-result c = rw (read c) (fits64 (small32 (fits c)))
 
-cast_result_2 : tie.Need-overflow-cast-result-2
-cast_result_2 c = search rules
+pub overflow_cast-result-else-n-lt2147483648-2 : goal.overflow_cast-result-else-n-lt2147483648-2
+overflow_cast-result-else-n-lt2147483648-2 c = rw (read c, to_z-of_z w64 _ (fits64 (small32 (fits c)))) (fits c)
 
-sub_result : tie.Need-overflow-sub-result
-sub_result c = rw (read c) (fits64 (small32 (fits c)))
+pub returns-then-n-lt2147483648 : goal.returns-then-n-lt2147483648
+returns-then-n-lt2147483648 c = to_z_pos w32 _ c.if-n-lt2147483648.true ∙ sym (signed32_low _ c.if-n-lt2147483648.true)
 
-cast_result_3 : tie.Need-overflow-cast-result-3
-cast_result_3 c = rw (read c, to_z-of_z w64 _ (fits64 (small32 (fits c)))) (fits c)
-
-returns : tie.Need-returns
-returns c = to_z_pos w32 _ c.if1.true ∙ sym (signed32_low _ c.if1.true)
-
-returns_2 : tie.Need-returns-2
-returns_2 c =
+pub returns-else-n-lt2147483648 : goal.returns-else-n-lt2147483648
+returns-else-n-lt2147483648 c =
     let kept = to_z-of_z w64 _ (fits64 (small32 (fits c))) in
-    rw (read c, kept, to_z-of_z w32 _ (fits c)) (sym (signed32_high _ c.if1.false c.before.ranges.n.fits))
-
-pub signed32_spec : {M : Type 1} → statement M
-signed32_spec =
-    tie.close (tie.spec cast_result cast_result_2 sub_result cast_result_3 returns returns_2)
+    rw (read c, kept, to_z-of_z w32 _ (fits c)) (sym (signed32_high _ c.if-n-lt2147483648.false c.ranges.n.fits))
