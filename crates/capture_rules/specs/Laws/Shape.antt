@@ -1,6 +1,6 @@
 -- Bytes that are like a pattern: there are as many, each fits its place, and where the pattern has zeros they are digits, which make a number of
 -- so many places. And what a time that is taken was asked.
-use Rattle.std.specs.Prelude.{◌≡◌, refl, Bool, true, false, ◌&&◌, List, [], ◌∷◌, ℕ, zero, suc, ◌+◌, ◌-◌, ◌*◌, ◌^◌, ◌≤◌, ◌<◌, length, drop, leb, eqb}
+use Rattle.std.specs.Prelude.{◌≡◌, refl, Bool, true, ◌&&◌, List, [], ◌∷◌, ℕ, zero, suc, ◌+◌, ◌*◌, ◌^◌, ◌≤◌, ◌<◌, length, drop, leb, eqb}
 use Rattle.std.proofs.Common.{sym, ap, true≢false, pow-suc, lt_of_lt_of_le, le_of_suc-le-suc, arith, lit<, drop-cons, leb-true, eqb-true, ne_eqb, below_more}
 use Rattle.std.proofs.Math.Nat.{pow-le-pow_right}
 use Rattle.rules.specs.Doc.Outcomes.{fine, require}

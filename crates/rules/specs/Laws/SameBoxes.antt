@@ -10,7 +10,7 @@ use borrow.Author.Tests.{ltb-false}
 use Rattle.rules.specs.Doc.Outcomes.{if◌then◌else◌, Outcome, fine, refused, ◌>>=◌}
 use Rattle.rules.specs.Doc.Lists.{only, each}
 use Rattle.rules.specs.Doc.Bytes.{number_at, positions, bytes_in}
-use Rattle.rules.specs.Doc.Walks.{Step, over, cut, met, run}
+use Rattle.rules.specs.Doc.Walks.{Step, over, met, run}
 use Rattle.rules.specs.Doc.Headers.{Header, header_of, header_at, body_size, Box, box_with}
 use Rattle.rules.specs.Doc.Levels.{Level, tested, said, decided, box_step, level_step, boxes}
 use Rattle.rules.specs.Doc.Consulted.{span_bytes, box_bytes, cut_bytes, boxes_bytes, Agree}

@@ -5,7 +5,7 @@ use Rattle.rules.specs.Doc.Outcomes.{if◌then◌else◌}
 use Rattle.rules.specs.Doc.Lists.{only}
 use Rattle.rules.specs.Laws.Rows.{by_test}
 use Rattle.sheet_rules.specs.Doc.Lines.{Entry}
-use Rattle.sheet_rules.specs.Doc.Sheet.{files_with, sum, larger, largest_of, lengths, totals}
+use Rattle.sheet_rules.specs.Doc.Sheet.{files_with, sum, larger, largest_of, lengths}
 use Rattle.sheet_rules.specs.Laws.Shape.{Allowed}
 
 -- ---- Files

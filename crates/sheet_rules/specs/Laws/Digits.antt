@@ -1,5 +1,5 @@
 -- Where the digits of a number end: so a number in front of something else can be told from it in one way only.
-use Rattle.std.specs.Prelude.{◌≡◌, refl, ℕ, zero, suc, ◌+◌, ◌-◌, ◌/◌, ◌%◌, ◌<◌, true, List, [], ◌∷◌, ◌++◌, ltb}
+use Rattle.std.specs.Prelude.{◌≡◌, refl, ℕ, zero, suc, ◌+◌, ◌/◌, ◌%◌, ◌<◌, true, List, [], ◌∷◌, ◌++◌, ltb}
 use Rattle.std.proofs.Common.{sym, ap, ◌∙◌, arith, append-nil, le-leb, lt-ltb, ltb-true}
 use Rattle.std.proofs.lemmas.List.{append_cancel_left}
 use Rattle.rules.specs.Doc.Text.{digit, decimal_to, decimal, is_digit}

@@ -5,7 +5,6 @@ use Rattle.std.proofs.Common.{arith, inl, inr, length-append, leb-true, eqb-true
 use Rattle.std.proofs.Math.Option.{none, some}
 use Rattle.rules.specs.Doc.Outcomes.{if◌then◌else◌}
 use Rattle.rules.specs.Doc.Lists.{same}
-use Rattle.rules.specs.Doc.Listing.{newline}
 use Rattle.rules.specs.Laws.Text.{two_digits, five_digits}
 use Rattle.rules.specs.Laws.Rows.{both_true}
 use Rattle.sheet_rules.specs.Doc.Rows.{row_text}
