@@ -1,10 +1,8 @@
-use borrow.Author.Rules.{rules}
 use mathlib.Core.Path.{◌≡◌, refl}
-use Prim.Native.Nat.{◌≤◌, ◌-◌}
 use native.Mathlib.Omega.{arith}
 use native.Mathlib.Numerals.{add-one}
 use Rattle.rules.specs.Doc.Endian.{number_of, number_in}
-use Rattle.rules.specs.Laws.Endian.{digits_in, digits_room, number_in_below}
+use Rattle.rules.specs.Laws.Endian.{digits_room, number_in_below}
 use Rattle.endian.specs.Told.{endian_of}
 use Rattle.endian.proofs.load.Goals as goal
 

@@ -1,12 +1,9 @@
 -- `num` is the number that the `i` highest digits make. It is below 256^i, so up to eight bytes never overflow. The measure is the bytes that are
 -- still to come. Where a digit stands is left to `place`.
-use borrow.Author.Rules.{rules}
-use mathlib.Core.Path.{◌≡◌, refl}
+use mathlib.Core.Path.{◌≡◌}
 use Prim.Native.Nat.{◌≤◌, ◌-◌}
-use native.Mathlib.Omega.{arith}
-use native.Mathlib.Numerals.{add-one}
-use Rattle.rules.specs.Doc.Endian.{number_of, number_in}
-use Rattle.rules.specs.Laws.Endian.{digits_in, digits_room, number_in_below}
+use Rattle.rules.specs.Doc.Endian.{number_of}
+use Rattle.rules.specs.Laws.Endian.{digits_in}
 use Rattle.endian.specs.Told.{endian_of}
 use Rattle.endian.proofs.load.Given as goal
 

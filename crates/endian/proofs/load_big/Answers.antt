@@ -1,7 +1,6 @@
 -- The numbers of Bytes are the big-endian ones.
 use mathlib.Core.Path.{◌∙◌}
 use Rattle.rules.specs.Laws.Endian.{number_big}
-use borrow.Author.Rules.{rules}
 use Rattle.endian.proofs.load_big.Goals as goal
 
 pub returns : goal.returns

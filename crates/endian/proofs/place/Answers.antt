@@ -2,7 +2,6 @@
 use mathlib.Core.Path.{refl}
 use native.Mathlib.Omega.{arith}
 use Rattle.rules.specs.Doc.Endian.{place_in}
-use borrow.Author.Rules.{rules}
 use Rattle.endian.proofs.place.Goals as goal
 
 pub returns-in-Big : goal.returns-in-Big

@@ -1,5 +1,4 @@
 -- The room is asked before a byte is written, and with room the copy is the whole block (specs/Answers).
-use borrow.Author.Rules.{rules}
 use Rattle.output.specs.Answers.{answer_28, answer_0}
 use Rattle.output.proofs.hand_out.Goals as goal
 

@@ -1,10 +1,7 @@
-use mathlib.Core.List.{List}
-use mathlib.Core.Path.{◌≡◌, refl}
-use Prim.Native.Nat.{ℕ, ◌-◌}
+use mathlib.Core.Path.{refl}
 use native.Mathlib.Omega.{arith}
-use lib.ListN.{length, drop, length-set, drop_of_length-le}
-use borrow.Author.Rules.{rules}
-use Rattle.output.specs.Copied.{Copied, copied_none, copied_full, copied_more}
+use lib.ListN.{length-set, drop_of_length-le}
+use Rattle.output.specs.Copied.{copied_none, copied_full, copied_more}
 use Rattle.output.proofs.put.Goals as goal
 
 pub loop-i-init : goal.loop-i-init

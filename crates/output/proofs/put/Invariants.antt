@@ -1,11 +1,9 @@
 -- The invariant: a copy of what is left of `part`, from o on, is a copy of all of it from `at` on.
 use mathlib.Core.List.{List}
-use mathlib.Core.Path.{◌≡◌, refl}
+use mathlib.Core.Path.{◌≡◌}
 use Prim.Native.Nat.{ℕ, ◌-◌}
-use native.Mathlib.Omega.{arith}
-use lib.ListN.{length, drop, length-set, drop_of_length-le}
-use borrow.Author.Rules.{rules}
-use Rattle.output.specs.Copied.{Copied, copied_none, copied_full, copied_more}
+use lib.ListN.{length, drop}
+use Rattle.output.specs.Copied.{Copied}
 use Rattle.output.proofs.put.Given as goal
 
 abbrev pub invariant-loop-i : goal.invariant-loop-i

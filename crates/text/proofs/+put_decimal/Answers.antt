@@ -1,7 +1,5 @@
 -- The number falls: what is left of it without its last digit is written first, and then that digit.
-use Prim.Native.Nat.{ℕ, ◌<◌}
 use native.Mathlib.Omega.{arith}
-use borrow.Author.Rules.{rules}
 use Rattle.rules.specs.Laws.Text.{decimal_one, decimal_more, decimal_longer, one_digit}
 use Rattle.text.specs.Wrote.{wrote_then}
 use Rattle.text.proofs.+put_decimal.Goals as goal

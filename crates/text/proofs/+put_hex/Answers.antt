@@ -1,7 +1,5 @@
 -- The count of digits falls: the higher ones are written first, and then the last.
-use Prim.Native.Nat.{ℕ, ◌<◌}
 use native.Mathlib.Omega.{arith}
-use borrow.Author.Rules.{rules}
 use Rattle.rules.specs.Laws.Text.{hex_none, hex_more, hex_longer}
 use Rattle.text.specs.Wrote.{wrote_none, wrote_then}
 use Rattle.text.proofs.+put_hex.Goals as goal

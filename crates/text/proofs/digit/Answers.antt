@@ -1,6 +1,5 @@
 -- The definition makes the same test.
 use borrow.Author.Tests.{lt-ltb, le-ltb}
-use borrow.Author.Rules.{rules}
 use Rattle.rules.specs.Doc.Text.{digit}
 use Rattle.text.proofs.digit.Goals as goal
 

@@ -1,10 +1,7 @@
-use mathlib.Core.Path.{◌≡◌, refl, ◌∙◌}
-use Prim.Native.Nat.{◌-◌, ◌≤◌}
+use mathlib.Core.Path.{refl, ◌∙◌}
 use native.Mathlib.Omega.{arith}
-use lib.ListN.{length, take}
 use lib.Seq.{length-take-le, take_all}
-use borrow.Author.Rules.{rules}
-use Rattle.text.specs.Wrote.{Wrote, wrote_none, wrote_more}
+use Rattle.text.specs.Wrote.{wrote_none, wrote_more}
 use Rattle.text.proofs.put.Goals as goal
 
 pub loop-i-init : goal.loop-i-init

@@ -1,11 +1,8 @@
 -- The bytes up to `i` are written, each turn writes one more behind them, and at the end these are all.
-use mathlib.Core.Path.{◌≡◌, refl, ◌∙◌}
+use mathlib.Core.Path.{◌≡◌}
 use Prim.Native.Nat.{◌-◌, ◌≤◌}
-use native.Mathlib.Omega.{arith}
 use lib.ListN.{length, take}
-use lib.Seq.{length-take-le, take_all}
-use borrow.Author.Rules.{rules}
-use Rattle.text.specs.Wrote.{Wrote, wrote_none, wrote_more}
+use Rattle.text.specs.Wrote.{Wrote}
 use Rattle.text.proofs.put.Given as goal
 
 abbrev pub invariant-loop-i : goal.invariant-loop-i

@@ -1,7 +1,6 @@
 -- Past the end the byte changes nothing (`set_out`), and the place counts on all the same.
 use mathlib.Core.Path.{refl, sym}
 use lib.Seq.{set_out}
-use borrow.Author.Rules.{rules}
 use Rattle.text.proofs.put_byte.Goals as goal
 
 pub returns-then-out-at : goal.returns-then-out-at

@@ -1,5 +1,4 @@
 -- A name and a number written one behind the other are one text (`wrote_then`). The place behind both can be told, so that behind the name can.
-use borrow.Author.Rules.{rules}
 use Rattle.rules.specs.Doc.Text.{decimal}
 use Rattle.text.specs.Wrote.{wrote_then, room_first, room_then}
 use Rattle.text.proofs.put_named.Goals as goal

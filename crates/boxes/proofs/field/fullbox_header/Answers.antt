@@ -1,5 +1,4 @@
 -- The definition takes the version from the four-byte field at that place, and what that field is, `uint32` has said.
-use borrow.Author.Rules.{rules}
 use Rattle.rules.specs.Doc.Bytes.{version}
 use Rattle.boxes.proofs.field.fullbox_header.Goals as goal
 

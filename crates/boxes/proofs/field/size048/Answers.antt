@@ -2,7 +2,6 @@
 -- bytes is 0 unless its place is past the end.
 use mathlib.Core.Path.{refl}
 use native.Mathlib.Omega.{arith}
-use borrow.Author.Rules.{rules}
 use Rattle.rules.specs.Doc.Bytes.{number_at, sized}
 use Rattle.rules.specs.Laws.Numbers.{field_in, field_out, sized_out}
 use Rattle.boxes.proofs.field.size048.Goals as goal

@@ -1,7 +1,6 @@
 -- A field doesn't fit exactly where fewer bytes are left than it has, which is the test; where it fits, it is the number that the load gives. Both
 -- are laws for every width, taken here at 2.
 use native.Mathlib.Omega.{arith}
-use borrow.Author.Rules.{rules}
 use Rattle.rules.specs.Laws.Numbers.{field_in, field_out}
 use Rattle.boxes.proofs.field.uint16.Goals as goal
 

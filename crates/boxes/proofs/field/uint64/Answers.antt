@@ -1,6 +1,5 @@
 -- As `uint16`, at width 8: a field doesn't fit exactly where fewer bytes are left than it has, and else it is the number that the load gives.
 use native.Mathlib.Omega.{arith}
-use borrow.Author.Rules.{rules}
 use Rattle.rules.specs.Laws.Numbers.{field_in, field_out}
 use Rattle.boxes.proofs.field.uint64.Goals as goal
 

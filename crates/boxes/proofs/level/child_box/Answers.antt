@@ -1,10 +1,8 @@
 -- A header that is cut or invalid is refused whatever stands behind it. One that was read announces a body, of which definition and test ask the same:
 -- that it ends inside.
 use native.Mathlib.Omega.{arith}
-use mathlib.Core.Logic.{⊎_elim}
 use Rattle.rules.specs.Laws.Decision.{child_cut, child_whole}
 use borrow.Author.Tests.{ltb-true, ltb-false}
-use borrow.Author.Rules.{rules}
 use Rattle.boxes.proofs.level.child_box.Goals as goal
 use Rattle.boxes.proofs.level.child_box.Goals.{then-s-from-via-then-s-from, then-s-from-via-else-s-from+then-size-s}
 

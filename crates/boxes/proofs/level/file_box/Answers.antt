@@ -1,6 +1,5 @@
 -- `Header::read` says what is announced, here with 2 for a cut header. Of an announced box, `e`, the definition asks only whether its type is skipped
 -- and its body then below 2^63, and so do the arms (Laws/Decision).
-use borrow.Author.Rules.{rules}
 use Rattle.rules.specs.Doc.Headers.{box_at, file_box_at}
 use Rattle.rules.specs.Laws.Decision.{file_opened, file_skipped, file_large}
 use Rattle.boxes.proofs.level.file_box.Goals as goal

@@ -1,8 +1,5 @@
 -- Each return is one case of the decision over the size, and its law in Laws/Decision; at the last, the arms of the sizes 0, 1 and from 8 on have met.
-use native.Mathlib.Omega.{arith}
-use mathlib.Core.Logic.{⊎_elim}
 use Rattle.rules.specs.Laws.Decision as by
-use borrow.Author.Rules.{rules}
 use Rattle.boxes.proofs.header.Header.read.Goals as goal
 use Rattle.boxes.proofs.header.Header.read.Goals.{in-0, in-1+else-left-lt-LONG+else-size, in_default}
 
