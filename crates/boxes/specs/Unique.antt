@@ -1,7 +1,7 @@
 -- No two answers say the same, so each contract of this crate determines its function's answer.
-use Rattle.std.specs.Prelude.{◌≡◌, refl, ℕ, ◌+◌, ◌-◌, ◌≤◌, Bool, List, [], ◌∷◌, length, T, leb, eqb}
+use Rattle.std.specs.Prelude.{◌≡◌, refl, ℕ, ◌+◌, ◌-◌, ◌≤◌, Bool, List, [], ◌∷◌, length, T, leb, eqb, if◌then◌else◌}
 use Rattle.std.proofs.Common.{sym, ap, ap₂, ◌∙◌, arith, leb→le}
-use Rattle.rules.specs.Doc.Outcomes.{if◌then◌else◌, Outcome, fine, refused}
+use Rattle.rules.specs.Doc.Outcomes.{Outcome, fine, refused}
 use Rattle.rules.specs.Doc.Bytes.{size_of}
 use Rattle.rules.specs.Cases.{every}
 use Rattle.rules.specs.Doc.Headers.{Box, whole, announced, standing, file_box_at}

@@ -1,8 +1,8 @@
 -- No two answers say the same, so the contracts of `from_block` and `from_image` determine their answers; that of `from_image` the output too.
-use Rattle.std.specs.Prelude.{◌≡◌, refl, List, ℕ, ltb}
+use Rattle.std.specs.Prelude.{◌≡◌, refl, List, ℕ, ltb, if◌then◌else◌}
 use Rattle.std.proofs.Common.{sym, ap, ◌∙◌, arith, lt-ltb}
 use Rattle.std.proofs.Math.Option.{Option, none, some}
-use Rattle.rules.specs.Doc.Outcomes.{if◌then◌else◌, Outcome, fine, refused}
+use Rattle.rules.specs.Doc.Outcomes.{Outcome, fine, refused}
 use Rattle.jpeg_rules.specs.Doc.Either.{either_answer}
 use Rattle.rules.specs.Laws.Back.{one}
 use Rattle.boxes.specs.Told.{number}

@@ -1,7 +1,7 @@
 -- No two outcomes, answer and output together, meet a contract of this crate.
-use Rattle.std.specs.Prelude.{◌≡◌, refl, List, ℕ, ◌<◌, eqb}
+use Rattle.std.specs.Prelude.{◌≡◌, refl, List, ℕ, ◌<◌, eqb, if◌then◌else◌}
 use Rattle.std.proofs.Common.{sym, ap, ◌∙◌, arith, ne_eqb}
-use Rattle.rules.specs.Doc.Outcomes.{if◌then◌else◌, fine}
+use Rattle.rules.specs.Doc.Outcomes.{fine}
 use Rattle.rules.specs.Doc.Answers.{Answer}
 use Rattle.rules.specs.OverBytes.{answer_of}
 use Rattle.rules.specs.Laws.Numbered.{went}

@@ -1,8 +1,8 @@
 -- Steps 2 to 10 over bytes, by the parts that each function of the code is lent, where document 01's definitions have positions in the image.
 -- Laws/Gather and Laws/Lent show that the two say the same.
-use Rattle.std.specs.Prelude.{ℕ, ◌+◌, Bool, true, false, List, [], ◌∷◌, length, ltb}
+use Rattle.std.specs.Prelude.{ℕ, ◌+◌, Bool, true, false, List, [], ◌∷◌, length, ltb, if◌then◌else◌}
 use Rattle.std.proofs.Math.Option.{Option, none, some}
-use Rattle.rules.specs.Doc.Outcomes.{if◌then◌else◌, Outcome, fine, refused, ◌>>=◌, once}
+use Rattle.rules.specs.Doc.Outcomes.{Outcome, fine, refused, ◌>>=◌, once}
 use Rattle.rules.specs.Doc.Lists.{each}
 use Rattle.rules.specs.Doc.Bytes.{number_at, part, Span, size_of, bytes_in}
 use Rattle.rules.specs.Doc.Meta.{opened}

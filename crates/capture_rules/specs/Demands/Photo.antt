@@ -1,6 +1,6 @@
 -- Of an image: what is said of it is what its block says, so all that is claimed of a block holds. Which numbers refuse it, and how long the line
 -- is. Pictures have no say.
-use Rattle.std.specs.Prelude.{◌≡◌, ◌⊎◌, length, take, drop, leb}
+use Rattle.std.specs.Prelude.{◌≡◌, ◌⊎◌, length, take, drop, leb, if◌then◌else◌}
 use Rattle.std.proofs.Math.Path.{refl}
 use Rattle.std.proofs.Common.{sym, ap, ◌∙◌, ⊎_elim, le_trans, pos_of_ne-zero, arith, leb→le, lit≤, lit<}
 use Rattle.std.proofs.Math.Bool.{Bool, true, false}
@@ -12,7 +12,7 @@ use Rattle.std.proofs.lemmas.List.{length-map}
 use Rattle.std.proofs.Math.Seq.{take-append_seam}
 use Rattle.std.proofs.Math.Dec.{eqb}
 use borrow.Author.Tests.{le-leb, ne_eqb, eqb-true, eqb-false}
-use Rattle.rules.specs.Doc.Outcomes.{if◌then◌else◌, Outcome, fine, refused, ◌>>=◌, require, once}
+use Rattle.rules.specs.Doc.Outcomes.{Outcome, fine, refused, ◌>>=◌, require, once}
 use Rattle.rules.specs.Doc.Bytes.{byte_at}
 use Rattle.rules.specs.Doc.Block.{bytes_at}
 use Rattle.rules.specs.Doc.Answers.{handed, answer_with, answer_by}

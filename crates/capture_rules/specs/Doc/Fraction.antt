@@ -1,8 +1,7 @@
 -- A fraction in lowest terms: no number above 1 divides both parts, so 2/4 is 1/2. The denominator is above zero: a sign that stood below goes above.
-use Rattle.std.specs.Prelude.{ℕ, zero, suc, ◌-◌, ◌/◌, ◌%◌, ◌^◌, Bool, true, false, not, ℤ, pos, neg_ℤ, nat_abs, ltb}
+use Rattle.std.specs.Prelude.{ℕ, zero, suc, ◌-◌, ◌/◌, ◌%◌, ◌^◌, Bool, true, false, not, ℤ, pos, neg_ℤ, nat_abs, ltb, if◌then◌else◌}
 use Rattle.std.specs.Bool.{beq}
 use Rattle.std.specs.Int.Signed.{lt_z}
-use Rattle.rules.specs.Doc.Outcomes.{if◌then◌else◌}
 
 pub record Fraction : Type 0 where
   pub num : ℤ

@@ -1,7 +1,7 @@
 -- The header of a block: its byte order, 42, which every TIFF file has there, and where its first directory is.
-use Rattle.std.specs.Prelude.{ℕ, List, length, leb, eqb}
+use Rattle.std.specs.Prelude.{ℕ, List, length, leb, eqb, if◌then◌else◌}
 use Rattle.std.proofs.Math.Option.{Option, none, some}
-use Rattle.rules.specs.Doc.Outcomes.{if◌then◌else◌, Outcome, fine, ◌>>=◌, require, given}
+use Rattle.rules.specs.Doc.Outcomes.{Outcome, fine, ◌>>=◌, require, given}
 use Rattle.rules.specs.Doc.Bytes.{number_at}
 use Rattle.rules.specs.Doc.Endian.{Endian, big, little, number_in}
 use Rattle.rules.specs.Doc.Text.{ascii}

@@ -1,8 +1,8 @@
 -- The line that says what was read of a photograph: `answer=0 date=2023:06:14 09:26:53 bias=-1/2`, or `answer=` and the number of the refusal.
-use Rattle.std.specs.Prelude.{ℕ, ◌/◌, ◌%◌, List, [], ◌∷◌, ◌++◌, ℤ, pos, nat_abs}
+use Rattle.std.specs.Prelude.{ℕ, ◌/◌, ◌%◌, List, [], ◌∷◌, ◌++◌, ℤ, pos, nat_abs, if◌then◌else◌}
 use Rattle.std.proofs.Math.Option.{Option, none, some}
 use Rattle.std.specs.Int.Signed.{lt_z}
-use Rattle.rules.specs.Doc.Outcomes.{if◌then◌else◌, Outcome, fine, refused}
+use Rattle.rules.specs.Doc.Outcomes.{Outcome, fine, refused}
 use Rattle.rules.specs.Doc.Text.{ascii, digit, decimal}
 use Rattle.rules.specs.Doc.Listing.{newline, named}
 use Rattle.capture_rules.specs.Doc.Time.{Time}

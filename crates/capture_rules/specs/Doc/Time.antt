@@ -1,6 +1,6 @@
 -- A date and a time of day: twenty bytes of the shape `YYYY:MM:DD HH:MM:SS` and a zero byte, that name a day of the Gregorian calendar from year 1 on.
-use Rattle.std.specs.Prelude.{ℕ, zero, suc, ◌+◌, ◌-◌, ◌*◌, ◌%◌, Bool, true, false, not, ◌&&◌, ◌||◌, List, [], ◌∷◌, ◌++◌, leb, eqb}
-use Rattle.rules.specs.Doc.Outcomes.{if◌then◌else◌, Outcome, fine, ◌>>=◌, require}
+use Rattle.std.specs.Prelude.{ℕ, zero, suc, ◌+◌, ◌-◌, ◌*◌, ◌%◌, Bool, true, false, not, ◌&&◌, ◌||◌, List, [], ◌∷◌, ◌++◌, leb, eqb, if◌then◌else◌}
+use Rattle.rules.specs.Doc.Outcomes.{Outcome, fine, ◌>>=◌, require}
 use Rattle.rules.specs.Doc.Lists.{any}
 use Rattle.rules.specs.Doc.Bytes.{byte_at}
 use Rattle.rules.specs.Doc.Text.{ascii, is_digit}

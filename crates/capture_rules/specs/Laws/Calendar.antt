@@ -1,9 +1,9 @@
 -- The date handed out is a date of the Gregorian calendar from year 1 on, and the time of day is one: said in inequalities, and with leap years by
 -- what divides a year.
-use Rattle.std.specs.Prelude.{◌≡◌, refl, Bool, true, false, not, ◌&&◌, ◌||◌, List, [], ◌∷◌, ◌⊎◌, ℕ, zero, suc, ◌+◌, ◌%◌, ◌≤◌, leb, eqb}
+use Rattle.std.specs.Prelude.{◌≡◌, refl, Bool, true, false, not, ◌&&◌, ◌||◌, List, [], ◌∷◌, ◌⊎◌, ℕ, zero, suc, ◌+◌, ◌%◌, ◌≤◌, leb, eqb, if◌then◌else◌}
 use Rattle.std.proofs.Common.{ap, inl, inr, ⊎_elim, arith, lit≤, leb-true, eqb-true, eq-eqb, ne_eqb}
 use Rattle.std.proofs.lemmas.Bool.{eqb-false}
-use Rattle.rules.specs.Doc.Outcomes.{if◌then◌else◌, fine}
+use Rattle.rules.specs.Doc.Outcomes.{fine}
 use Rattle.rules.specs.Doc.Lists.{any}
 use Rattle.rules.specs.Laws.Rows.{by_test, both_true}
 use Rattle.capture_rules.specs.Doc.Time.{Time, pattern, decimal_at, time_in, divides, between, leap, days_in, is_date, is_clock, time}

@@ -1,10 +1,9 @@
 -- A number by its size and its sign, and the signed number that four bytes hold.
-use Rattle.std.specs.Prelude.{◌≡◌, refl, Bool, true, false, not, ℕ, zero, suc, ◌*◌, ◌-◌, ◌^◌, ◌≤◌, ◌<◌, ℤ, pos, negsuc, neg_ℤ, nat_abs, ◌-ℤ◌, ◌*ℤ◌, ltb}
+use Rattle.std.specs.Prelude.{◌≡◌, refl, Bool, true, false, not, ℕ, zero, suc, ◌*◌, ◌-◌, ◌^◌, ◌≤◌, ◌<◌, ℤ, pos, negsuc, neg_ℤ, nat_abs, ◌-ℤ◌, ◌*ℤ◌, ltb, if◌then◌else◌}
 use Rattle.std.proofs.Common.{ap, mul-zero, zero-mul, pos_of_ne-zero, arith, ltb-true, ltb-false, lt-ltb, le-ltb}
 use Rattle.std.specs.Bool.{beq}
 use Rattle.std.proofs.Math.IntN.{zero-*ℤ}
 use Rattle.std.specs.Int.Signed.{lt_z}
-use Rattle.rules.specs.Doc.Outcomes.{if◌then◌else◌}
 use Rattle.capture_rules.specs.Doc.Fraction.{signed32, with_sign}
 
 -- ---- Size and sign

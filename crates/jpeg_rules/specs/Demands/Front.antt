@@ -3,13 +3,13 @@
 use Rattle.std.proofs.Math.Path.{◌≡◌, refl, sym, ap}
 use Rattle.std.proofs.Common.{◌∙◌, arith, length-take, get_or-take}
 use Prim.Native.Nat.{ℕ, zero, suc, ◌+◌, ◌-◌, ◌≤◌, ◌<◌}
-use Rattle.std.specs.Prelude.{Bool, ◌&&◌, ◌||◌, List, take, ltb}
+use Rattle.std.specs.Prelude.{Bool, ◌&&◌, ◌||◌, List, take, ltb, if◌then◌else◌}
 use Rattle.std.proofs.Math.Bool.{true, false}
 use Rattle.std.proofs.Math.Option.{Option, none, some}
 use Rattle.std.proofs.Math.ListN.{length}
 use Rattle.std.proofs.Math.Dec.{leb, eqb}
 use borrow.Author.Tests.{le-leb, lt-leb, lt-ltb, leb-true, leb-false, ltb-true}
-use Rattle.rules.specs.Doc.Outcomes.{if◌then◌else◌, Outcome, fine, refused, ◌>>=◌, require, once}
+use Rattle.rules.specs.Doc.Outcomes.{Outcome, fine, refused, ◌>>=◌, require, once}
 use Rattle.rules.specs.Doc.Bytes.{byte_at, number_at, positions, Span, size_of}
 use Rattle.rules.specs.Doc.Walks.{Then, onward, halt, Step, over, cut, met, Walk, stopped_at, bare, walked, judged, after, run}
 use Rattle.rules.specs.Doc.Answers.{handed}

@@ -1,9 +1,9 @@
 -- Demand 1: a refusal changes no byte of the output, success changes the block's bytes only, and the room refusal is given exactly when the block is
 -- longer than the buffer: the theorems for every format, said of these. How large length and number can be. And that a block stands behind
 -- `Exif` and two zero bytes in the E1 segment that ended the search.
-use Rattle.std.specs.Prelude.{◌≡◌, refl, ℕ, ◌≤◌, ◌<◌, Bool, true, false, ◌⊎◌, List, length}
+use Rattle.std.specs.Prelude.{◌≡◌, refl, ℕ, ◌≤◌, ◌<◌, Bool, true, false, ◌⊎◌, List, length, if◌then◌else◌}
 use Rattle.std.proofs.Common.{sym, le_trans, arith, inl, inr, lit≤}
-use Rattle.rules.specs.Doc.Outcomes.{if◌then◌else◌, fine, require}
+use Rattle.rules.specs.Doc.Outcomes.{fine, require}
 use Rattle.rules.specs.Doc.Bytes.{positions, size_of}
 use Rattle.rules.specs.Doc.Walks.{stopped_at}
 use Rattle.rules.specs.Doc.Block.{block}

@@ -1,5 +1,5 @@
 -- Demand 3: pictures have no say. Two images of one length that agree on the bytes consulted for the first get the same answer.
-use Rattle.std.specs.Prelude.{◌≡◌, ◌&&◌}
+use Rattle.std.specs.Prelude.{◌≡◌, ◌&&◌, if◌then◌else◌}
 use Rattle.std.proofs.Math.Path.{refl, ap, ap₂, sym}
 use Rattle.std.proofs.Common.{◌∙◌, arith}
 use Prim.Native.Nat.{ℕ, ◌+◌, ◌≤◌, ◌<◌, min}
@@ -8,7 +8,7 @@ use mathlib.Core.List.{List, ◌++◌}
 use Rattle.std.proofs.Math.ListN.{length}
 use Rattle.std.proofs.Math.Dec.{leb, eqb}
 use borrow.Author.Tests.{leb-true}
-use Rattle.rules.specs.Doc.Outcomes.{if◌then◌else◌, Outcome, fine, ◌>>=◌, require, once, is_fine}
+use Rattle.rules.specs.Doc.Outcomes.{Outcome, fine, ◌>>=◌, require, once, is_fine}
 use Rattle.rules.specs.Doc.Bytes.{number_at, positions, Span, size_of}
 use Rattle.rules.specs.Doc.Walks.{End, ended, cut_at, refused_at, stopped_at, Walk}
 use Rattle.rules.specs.Doc.Headers.{Box}

@@ -1,6 +1,6 @@
 -- The block, as the positions of its bytes in the image, and the answer.
-use Rattle.std.specs.Prelude.{ℕ, ◌+◌, Bool, ◌&&◌, List, length, leb, eqb}
-use Rattle.rules.specs.Doc.Outcomes.{if◌then◌else◌, Outcome, fine, refused, ◌>>=◌, require}
+use Rattle.std.specs.Prelude.{ℕ, ◌+◌, Bool, ◌&&◌, List, length, leb, eqb, if◌then◌else◌}
+use Rattle.rules.specs.Doc.Outcomes.{Outcome, fine, refused, ◌>>=◌, require}
 use Rattle.rules.specs.Doc.Bytes.{number_at, positions, Span, size_of}
 use Rattle.rules.specs.Doc.Walks.{End, ended, cut_at, refused_at, stopped_at}
 use Rattle.rules.specs.Doc.Answers.{Answer, answer_by}

@@ -1,6 +1,6 @@
 -- Bytes consulted: the positions of an image on which the answer may depend.
-use Rattle.std.specs.Prelude.{ℕ, suc, ◌-◌, min, List, [], ◌++◌, length, leb, eqb}
-use Rattle.rules.specs.Doc.Outcomes.{if◌then◌else◌, once, require}
+use Rattle.std.specs.Prelude.{ℕ, suc, ◌-◌, min, List, [], ◌++◌, length, leb, eqb, if◌then◌else◌}
+use Rattle.rules.specs.Doc.Outcomes.{once, require}
 use Rattle.rules.specs.Doc.Bytes.{positions, size_of}
 use Rattle.rules.specs.Doc.Answers.{handed}
 use Rattle.rules.specs.Doc.Consulted.{walk_bytes}

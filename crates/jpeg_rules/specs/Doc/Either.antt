@@ -1,6 +1,6 @@
 -- A reader above both formats: it asks two questions, and then one of the readers.
-use Rattle.std.specs.Prelude.{ℕ, List, ◌++◌, length}
-use Rattle.rules.specs.Doc.Outcomes.{if◌then◌else◌, Outcome}
+use Rattle.std.specs.Prelude.{ℕ, List, ◌++◌, length, if◌then◌else◌}
+use Rattle.rules.specs.Doc.Outcomes.{Outcome}
 use Rattle.rules.specs.Doc.Levels.{boxes}
 use Rattle.rules.specs.Doc.Block.{block as heifBlock}
 use Rattle.rules.specs.Doc.Heif.{heif_level, is_heif}

@@ -1,8 +1,8 @@
 -- After FF D8: segments, each with a marker and, most of them, a length and a body. The first thing wrong, read from the front, gives the number: no
 -- FF where a marker must be, 32; a marker or a length that is cut, 2; a length under 2, 33; a body that is cut, 2.
-use Rattle.std.specs.Prelude.{ℕ, zero, suc, ◌+◌, ◌-◌, Bool, ◌&&◌, ◌||◌, List, length, leb, ltb, eqb}
+use Rattle.std.specs.Prelude.{ℕ, zero, suc, ◌+◌, ◌-◌, Bool, ◌&&◌, ◌||◌, List, length, leb, ltb, eqb, if◌then◌else◌}
 use Rattle.std.proofs.Math.Option.{Option, none, some}
-use Rattle.rules.specs.Doc.Outcomes.{if◌then◌else◌, Outcome, fine, refused, ◌>>=◌, require}
+use Rattle.rules.specs.Doc.Outcomes.{Outcome, fine, refused, ◌>>=◌, require}
 use Rattle.rules.specs.Doc.Bytes.{byte_at, number_at, Span, size_of}
 use Rattle.rules.specs.Doc.Walks.{Then, onward, halt, Step, over, cut, met, Walk, run}
 

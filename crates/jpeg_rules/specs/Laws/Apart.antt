@@ -1,8 +1,8 @@
 -- What starts FF D8 is no HEIF image, unless it is 4,292,345,856 bytes long or longer. That is 0xffd80000: its first four bytes would be the size of a
 -- box, and `is_heif` wants every box whole.
-use Rattle.std.specs.Prelude.{◌≡◌, refl, ℕ, ◌+◌, ◌*◌, ◌≤◌, ◌<◌, Bool, true, false, ◌&&◌, List, length, leb, eqb}
+use Rattle.std.specs.Prelude.{◌≡◌, refl, ℕ, ◌+◌, ◌*◌, ◌≤◌, ◌<◌, Bool, true, false, ◌&&◌, List, length, leb, eqb, if◌then◌else◌}
 use Rattle.std.proofs.Common.{ap, ◌∙◌, arith, leb-true, eqb-true}
-use Rattle.rules.specs.Doc.Outcomes.{if◌then◌else◌, Outcome, fine, refused, ◌>>=◌, is_fine}
+use Rattle.rules.specs.Doc.Outcomes.{Outcome, fine, refused, ◌>>=◌, is_fine}
 use Rattle.rules.specs.Doc.Bytes.{number_at}
 use Rattle.rules.specs.Doc.Headers.{Box, whole, child_at}
 use Rattle.rules.specs.Doc.Levels.{tested}

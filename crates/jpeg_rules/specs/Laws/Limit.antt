@@ -1,11 +1,11 @@
 -- No block is longer than 65,527 bytes: two bytes say the length of its segment, which counts them and the name before the block.
 use Rattle.std.proofs.Math.Path.{◌≡◌}
-use Rattle.std.specs.Prelude.{refl, ℕ, ◌+◌, ◌-◌, ◌≤◌, ◌<◌, Bool, ◌||◌, List, length, leb, ltb, eqb}
+use Rattle.std.specs.Prelude.{refl, ℕ, ◌+◌, ◌-◌, ◌≤◌, ◌<◌, Bool, ◌||◌, List, length, leb, ltb, eqb, if◌then◌else◌}
 use Rattle.std.proofs.Common.{sym}
 use native.Mathlib.Omega.{arith}
 use Rattle.std.proofs.Math.Bool.{true, false}
 use Rattle.std.proofs.Math.Option.{Option, none, some}
-use Rattle.rules.specs.Doc.Outcomes.{if◌then◌else◌, fine, ◌>>=◌, require}
+use Rattle.rules.specs.Doc.Outcomes.{fine, ◌>>=◌, require}
 use Rattle.rules.specs.Doc.Bytes.{byte_at, number_at, positions, Span, size_of}
 use Rattle.rules.specs.Laws.Rows.{bind_fine}
 use Rattle.rules.specs.Laws.Numbers.{number_below, positions_length}

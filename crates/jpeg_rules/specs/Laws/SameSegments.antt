@@ -1,11 +1,11 @@
 -- Images of one length that agree on the bytes consulted have the same segments there, and the same segments walked.
-use Rattle.std.specs.Prelude.{◌≡◌, ℕ, suc, ◌+◌, ◌-◌, ◌≤◌, ◌<◌, min, ◌&&◌, ◌||◌, List, [], length, ltb, eqb}
+use Rattle.std.specs.Prelude.{◌≡◌, ℕ, suc, ◌+◌, ◌-◌, ◌≤◌, ◌<◌, min, ◌&&◌, ◌||◌, List, [], length, ltb, eqb, if◌then◌else◌}
 use Rattle.std.proofs.Math.Path.{refl, ap}
 use Rattle.std.proofs.Common.{◌∙◌, arith, leb-true, leb-false, ltb-true}
 use Rattle.std.proofs.Math.Bool.{Bool, true, false}
 use Rattle.std.proofs.Math.Option.{Option}
 use Rattle.std.proofs.Math.Dec.{leb}
-use Rattle.rules.specs.Doc.Outcomes.{if◌then◌else◌, Outcome, fine, refused, ◌>>=◌, require}
+use Rattle.rules.specs.Doc.Outcomes.{Outcome, fine, refused, ◌>>=◌, require}
 use Rattle.rules.specs.Doc.Bytes.{byte_at, number_at, positions, size_of}
 use Rattle.rules.specs.Doc.Walks.{Then, halt, onward, Step, over, met, run}
 use Rattle.rules.specs.Doc.Consulted.{Agree}

@@ -1,10 +1,10 @@
 -- The segment that ended the walk was read somewhere, and it is an Exif segment unless its marker is DA or D9. A block lies in it.
 use Rattle.std.proofs.Math.Path.{◌≡◌, refl, ap}
 use Rattle.std.proofs.Common.{sym, ◌∙◌, arith, eqb-true}
-use Rattle.std.specs.Prelude.{ℕ, Bool, ◌&&◌, ◌||◌, List, length, leb}
+use Rattle.std.specs.Prelude.{ℕ, Bool, ◌&&◌, ◌||◌, List, length, leb, if◌then◌else◌}
 use Rattle.std.proofs.Math.Bool.{true, false, not}
 use Rattle.std.proofs.Math.Dec.{eqb}
-use Rattle.rules.specs.Doc.Outcomes.{if◌then◌else◌, Outcome, fine, refused, require}
+use Rattle.rules.specs.Doc.Outcomes.{Outcome, fine, refused, require}
 use Rattle.rules.specs.Doc.Bytes.{number_at, Span, size_of}
 use Rattle.rules.specs.Doc.Walks.{Then, onward, halt, over, met, End, ended, cut_at, refused_at, stopped_at}
 use Rattle.rules.specs.Laws.Rows.{apart, bind_fine}

@@ -1,7 +1,6 @@
 -- The numbers of a listing can be read back, so no two numbers are printed alike.
-use Rattle.std.specs.Prelude.{◌≡◌, ℕ, zero, suc, ◌+◌, ◌-◌, ◌*◌, ◌/◌, ◌%◌, ◌^◌, ◌≤◌, ◌<◌, List, [], ◌∷◌, ◌++◌, ltb}
+use Rattle.std.specs.Prelude.{◌≡◌, ℕ, zero, suc, ◌+◌, ◌-◌, ◌*◌, ◌/◌, ◌%◌, ◌^◌, ◌≤◌, ◌<◌, List, [], ◌∷◌, ◌++◌, ltb, if◌then◌else◌}
 use Rattle.std.proofs.Common.{◌∙◌, pow-suc, arith, lt-ltb, le-ltb, ltb-true, ltb-false}
-use Rattle.rules.specs.Doc.Outcomes.{if◌then◌else◌}
 use Rattle.rules.specs.Doc.Text.{digit, hex, decimal_to, decimal}
 use Rattle.rules.specs.Laws.Rows.{by_test}
 

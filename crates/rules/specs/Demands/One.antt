@@ -2,7 +2,7 @@
 -- room refusal is given exactly when the block is longer than the buffer. It is shown of any block, or refusal of one, that comes before the room; so
 -- it holds of every format. And how large the length and the number can be for a HEIF image.
 use Rattle.std.proofs.Math.Path.{◌≡◌, refl}
-use Rattle.std.specs.Prelude.{ℕ, ◌≤◌, ◌<◌, Bool, ◌⊎◌, List, [], ◌++◌, map}
+use Rattle.std.specs.Prelude.{ℕ, ◌≤◌, ◌<◌, Bool, ◌⊎◌, List, [], ◌++◌, map, if◌then◌else◌}
 use native.Mathlib.Omega.{arith}
 use Rattle.std.proofs.Math.Bool.{true, false}
 use Rattle.std.proofs.Math.Logic.{inl, inr}
@@ -10,7 +10,7 @@ use Rattle.std.proofs.Math.ListN.{length, drop}
 use Rattle.std.proofs.lemmas.List.{length-map}
 use Rattle.std.proofs.Math.Dec.{leb}
 use borrow.Author.Tests.{leb-true, leb-false, lt-leb}
-use Rattle.rules.specs.Doc.Outcomes.{if◌then◌else◌, Outcome, fine, refused, once}
+use Rattle.rules.specs.Doc.Outcomes.{Outcome, fine, refused, once}
 use Rattle.rules.specs.Doc.Bytes.{byte_at}
 use Rattle.rules.specs.Doc.Block.{bytes_at, block}
 use Rattle.rules.specs.Doc.Answers.{handed, answer_with, answer_by, answer}

@@ -1,8 +1,7 @@
 -- A byte that is not consulted may be anything; byte 111 of H is one.
-use Rattle.std.specs.Prelude.{◌≡◌, refl, ℕ, Bool, true, false, ◌||◌, List, [], ◌∷◌, length, set, leb, eqb}
+use Rattle.std.specs.Prelude.{◌≡◌, refl, ℕ, Bool, true, false, ◌||◌, List, [], ◌∷◌, length, set, leb, eqb, if◌then◌else◌}
 use Rattle.std.proofs.Common.{sym, length-set, get_or-set_other}
 use Rattle.std.proofs.lemmas.Bool.{eqb-false}
-use Rattle.rules.specs.Doc.Outcomes.{if◌then◌else◌}
 use Rattle.rules.specs.Doc.Answers.{handed, answer}
 use Rattle.rules.specs.Doc.Consulted.{consulted, Agree}
 use Rattle.rules.specs.Unfold.{document}

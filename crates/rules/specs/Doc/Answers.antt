@@ -1,7 +1,7 @@
 -- "Numbers given back": the answer, with the output after it. (The table itself is the enum `Refusal` of crates/boxes, whose numbers are in its
 -- specs/Told.)
-use Rattle.std.specs.Prelude.{ℕ, List, [], ◌++◌, length, drop, leb}
-use Rattle.rules.specs.Doc.Outcomes.{if◌then◌else◌, Outcome, fine, refused, once}
+use Rattle.std.specs.Prelude.{ℕ, List, [], ◌++◌, length, drop, leb, if◌then◌else◌}
+use Rattle.rules.specs.Doc.Outcomes.{Outcome, fine, refused, once}
 use Rattle.rules.specs.Doc.Block.{bytes_at, block}
 
 -- number, length, and the output after the call

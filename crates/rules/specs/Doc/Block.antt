@@ -1,6 +1,6 @@
 -- Step 10: the block, as the positions of its bytes in the image.
-use Rattle.std.specs.Prelude.{ℕ, ◌+◌, ◌-◌, List, [], map, length, take, drop, leb}
-use Rattle.rules.specs.Doc.Outcomes.{if◌then◌else◌, Outcome, fine, ◌>>=◌, require}
+use Rattle.std.specs.Prelude.{ℕ, ◌+◌, ◌-◌, List, [], map, length, take, drop, leb, if◌then◌else◌}
+use Rattle.rules.specs.Doc.Outcomes.{Outcome, fine, ◌>>=◌, require}
 use Rattle.rules.specs.Doc.Bytes.{byte_at, number_at}
 use Rattle.rules.specs.Doc.Join.{joined}
 

@@ -1,6 +1,6 @@
 -- Bytes and the numbers they make, all big-endian; fields at a position inside a box.
-use Rattle.std.specs.Prelude.{ℕ, zero, suc, ◌+◌, ◌-◌, ◌*◌, ◌/◌, ◌^◌, ◌||◌, List, [], ◌∷◌, length, take, drop, get_or, leb, eqb}
-use Rattle.rules.specs.Doc.Outcomes.{if◌then◌else◌, Outcome, fine, refused, ◌>>=◌, require}
+use Rattle.std.specs.Prelude.{ℕ, zero, suc, ◌+◌, ◌-◌, ◌*◌, ◌/◌, ◌^◌, ◌||◌, List, [], ◌∷◌, length, take, drop, get_or, leb, eqb, if◌then◌else◌}
+use Rattle.rules.specs.Doc.Outcomes.{Outcome, fine, refused, ◌>>=◌, require}
 
 -- the byte at a position; 0 past the end, where nobody looks
 abbrev pub byte_at : List ℕ → ℕ → ℕ

@@ -1,6 +1,6 @@
 -- "Bytes consulted": the positions of an image on which the answer may depend.
-use Rattle.std.specs.Prelude.{ℕ, ◌+◌, ◌-◌, min, ◌≡◌, List, [], ◌∷◌, ◌++◌, length, leb}
-use Rattle.rules.specs.Doc.Outcomes.{if◌then◌else◌, once}
+use Rattle.std.specs.Prelude.{ℕ, ◌+◌, ◌-◌, min, ◌≡◌, List, [], ◌∷◌, ◌++◌, length, leb, if◌then◌else◌}
+use Rattle.rules.specs.Doc.Outcomes.{once}
 use Rattle.rules.specs.Doc.Lists.{each}
 use Rattle.rules.specs.Doc.Bytes.{byte_at, positions, Span, size_of, bytes_in}
 use Rattle.rules.specs.Doc.Walks.{End, ended, cut_at, refused_at, stopped_at, Walk}

@@ -1,6 +1,6 @@
 -- Steps 4 and 5: `iinf`, and the `infe` in it.
-use Rattle.std.specs.Prelude.{ℕ, ◌+◌, Bool, List, [], ◌∷◌, eqb}
-use Rattle.rules.specs.Doc.Outcomes.{if◌then◌else◌, Outcome, fine, refused, ◌>>=◌, once}
+use Rattle.std.specs.Prelude.{ℕ, ◌+◌, Bool, List, [], ◌∷◌, eqb, if◌then◌else◌}
+use Rattle.rules.specs.Doc.Outcomes.{Outcome, fine, refused, ◌>>=◌, once}
 use Rattle.rules.specs.Doc.Lists.{only, each}
 use Rattle.rules.specs.Doc.Bytes.{bytes_in, field, version}
 use Rattle.rules.specs.Doc.Walks.{Walk, outcome}

@@ -1,6 +1,6 @@
 -- Steps 7 and 8: `iloc`, its entries, and the extents of the chosen one.
-use Rattle.std.specs.Prelude.{ℕ, ◌+◌, ◌*◌, ◌/◌, ◌%◌, Bool, not, ◌||◌, List, length, leb, eqb}
-use Rattle.rules.specs.Doc.Outcomes.{if◌then◌else◌, Outcome, fine, refused, ◌>>=◌, require, given}
+use Rattle.std.specs.Prelude.{ℕ, ◌+◌, ◌*◌, ◌/◌, ◌%◌, Bool, not, ◌||◌, List, length, leb, eqb, if◌then◌else◌}
+use Rattle.rules.specs.Doc.Outcomes.{Outcome, fine, refused, ◌>>=◌, require, given}
 use Rattle.rules.specs.Doc.Lists.{only, last_of}
 use Rattle.rules.specs.Doc.Bytes.{field, sized, version}
 use Rattle.rules.specs.Doc.Walks.{onward, Step, cut, met, Walk, run, outcome}

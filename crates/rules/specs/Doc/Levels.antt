@@ -1,7 +1,7 @@
 -- A level is data: the number of a cut header, what must fit, which bodies are opened and tested, and which box ends the walk.
-use Rattle.std.specs.Prelude.{ℕ, Bool, false, List, length, leb}
+use Rattle.std.specs.Prelude.{ℕ, Bool, false, List, length, leb, if◌then◌else◌}
 use Rattle.std.proofs.Math.Option.{Option, none, some}
-use Rattle.rules.specs.Doc.Outcomes.{if◌then◌else◌, Outcome, fine, refused, ◌>>=◌}
+use Rattle.rules.specs.Doc.Outcomes.{Outcome, fine, refused, ◌>>=◌}
 use Rattle.rules.specs.Doc.Bytes.{bytes_in}
 use Rattle.rules.specs.Doc.Walks.{Then, onward, halt, Step, over, cut, met, Walk, run}
 use Rattle.rules.specs.Doc.Headers.{Header, header_at, body_size, Box, box_with, whole}

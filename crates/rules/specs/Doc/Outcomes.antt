@@ -1,14 +1,9 @@
 -- A step goes on with a value, or is refused with a number of the table "Numbers given back".
 use Rattle.std.specs.Prelude.{ℕ, Bool, true, false, List, []}
 use Rattle.std.proofs.Math.Option.{Option, none, some}
+pub use Rattle.std.specs.Prelude.{if◌then◌else◌}
 
-infix 1 if◌then◌else◌
 infixl 2 ◌>>=◌
--- one thing or another, by a test
-abbrev pub if◌then◌else◌ {ℓ} : {A : Type ℓ} → Bool → A → A → A
-if true then x else y = x
-if false then x else y = y
-
 pub data Outcome (A : Type 0) : Type 0 where
   fine : A → Outcome A
   refused : ℕ → Outcome A

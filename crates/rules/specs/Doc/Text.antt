@@ -1,9 +1,8 @@
 -- What a line of text is made of: letters, and numbers as digits.
-use Rattle.std.specs.Prelude.{ℕ, zero, suc, ◌+◌, ◌/◌, ◌%◌, Bool, ◌&&◌, List, [], ◌∷◌, ◌++◌, leb, ltb}
+use Rattle.std.specs.Prelude.{ℕ, zero, suc, ◌+◌, ◌/◌, ◌%◌, Bool, ◌&&◌, List, [], ◌∷◌, ◌++◌, leb, ltb, if◌then◌else◌}
 use Prim.Native.Char.{code}
 use Prim.Native.String.{String}
 use Prim.Native.String as string
-use Rattle.rules.specs.Doc.Outcomes.{if◌then◌else◌}
 
 -- the bytes of letters
 abbrev pub ascii : String → List ℕ
@@ -26,7 +25,7 @@ hex (suc k) n = hex k (n / 16) ++ (digit (n % 16) ∷ [])
 -- a decimal number of at most k + 1 digits
 unfoldable pub decimal_to : ℕ → ℕ → List ℕ
 decimal_to zero n = digit (n % 10) ∷ []
-decimal_to (suc k) n = if ltb n 10 then digit n ∷ [] else decimal_to k (n / 10) ++ (digit (n % 10) ∷ [])
+decimal_to (suc k) n = if ltb n 10 then digit n ∷ [] else (decimal_to k (n / 10) ++ (digit (n % 10) ∷ []))
 
 -- a plain decimal number without leading zeros; it has no more than n + 1 digits
 unfoldable pub decimal : ℕ → List ℕ

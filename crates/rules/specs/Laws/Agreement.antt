@@ -1,8 +1,8 @@
 -- Images that agree on some positions have the same numbers and parts there.
-use Rattle.std.specs.Prelude.{◌≡◌, refl, ℕ, zero, suc, ◌+◌, ◌*◌, ◌≤◌, ◌<◌, Bool, true, false, List, [], ◌∷◌, ◌++◌, length, drop, leb}
+use Rattle.std.specs.Prelude.{◌≡◌, refl, ℕ, zero, suc, ◌+◌, ◌*◌, ◌≤◌, ◌<◌, Bool, true, false, List, [], ◌∷◌, ◌++◌, length, drop, leb, if◌then◌else◌}
 use Rattle.std.proofs.Common.{sym, ap, ap₂, ◌∙◌, subst, arith, length-take, length-drop, ext_get_or, get_or-take, get_or-drop}
 use Rattle.std.proofs.Math.Decide.{ℕ_discrete}
-use Rattle.rules.specs.Doc.Outcomes.{if◌then◌else◌, Outcome, fine, refused, ◌>>=◌, once}
+use Rattle.rules.specs.Doc.Outcomes.{Outcome, fine, refused, ◌>>=◌, once}
 use Rattle.rules.specs.Doc.Bytes.{byte_at, number_at, part, positions, Span, size_of, bytes_in}
 use Rattle.rules.specs.Doc.Consulted.{span_bytes, Agree}
 

@@ -1,11 +1,11 @@
 -- The boxes of a walk that ended well stand in a row: each is read where the one before it ended. The same at any level.
-use Rattle.std.specs.Prelude.{◌≡◌, Bool, true, false, List, [], ◌∷◌, length, leb}
+use Rattle.std.specs.Prelude.{◌≡◌, Bool, true, false, List, [], ◌∷◌, length, leb, if◌then◌else◌}
 use Rattle.std.proofs.Math.Path.{refl, subst}
 use Rattle.std.proofs.Common.{sym, arith}
 use Prim.Native.Nat.{ℕ, zero, suc, ◌+◌, ◌≤◌, ◌<◌}
 use Rattle.std.proofs.Math.Option.{Option, none, some}
 use borrow.Author.Tests.{leb-true, le-leb}
-use Rattle.rules.specs.Doc.Outcomes.{if◌then◌else◌, Outcome, fine, refused, ◌>>=◌, given}
+use Rattle.rules.specs.Doc.Outcomes.{Outcome, fine, refused, ◌>>=◌, given}
 use Rattle.rules.specs.Doc.Walks.{onward, halt, Step, over, cut, met, End, ended, cut_at, refused_at, stopped_at, Walk, bare, walked, judged, after, run, outcome}
 use Rattle.rules.specs.Doc.Headers.{Header, header_at, body_size, Box, box_with, whole, announced, box_at, child_at}
 use Rattle.rules.specs.Doc.Levels.{Level, tested, said, decided, box_step, level_step, boxes}

@@ -1,9 +1,9 @@
 -- Entries one after another, of which the last wanted one is chosen: what a loop of the code follows, and what is known of the chosen one.
-use Rattle.std.specs.Prelude.{◌≡◌, ◌⊎◌, Bool, true, false, List, ℕ, zero, suc, ◌+◌, ◌-◌, ◌%◌, ◌≤◌, ◌<◌, length, leb, eqb}
+use Rattle.std.specs.Prelude.{◌≡◌, ◌⊎◌, Bool, true, false, List, ℕ, zero, suc, ◌+◌, ◌-◌, ◌%◌, ◌≤◌, ◌<◌, length, leb, eqb, if◌then◌else◌}
 use Rattle.std.proofs.Math.Path.{refl, sym, ap}
 use Rattle.std.proofs.Common.{◌∙◌, subst, inl, inr, arith, lit<}
 use Rattle.std.proofs.Math.Option.{Option, none, some, none-ne-some, map-id}
-use Rattle.rules.specs.Doc.Outcomes.{if◌then◌else◌, Outcome, fine, refused, ◌>>=◌, require, given}
+use Rattle.rules.specs.Doc.Outcomes.{Outcome, fine, refused, ◌>>=◌, require, given}
 use Rattle.rules.specs.Doc.Lists.{only, last_of}
 use Rattle.rules.specs.Doc.Bytes.{field, sized, version}
 use Rattle.rules.specs.Doc.Walks.{onward, Walk, bare, walked, judged, after, run, outcome}

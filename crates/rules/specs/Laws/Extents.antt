@@ -1,5 +1,5 @@
 -- The extents of an entry: they share their sizes, so the first one is judged for all, and each can be read again.
-use Rattle.std.specs.Prelude.{◌≡◌, Bool, List, ◌∷◌, drop}
+use Rattle.std.specs.Prelude.{◌≡◌, Bool, List, ◌∷◌, drop, if◌then◌else◌}
 use Rattle.std.proofs.Math.Path.{refl, ap₂}
 use Rattle.std.proofs.Common.{ap, ◌∙◌, suc-mul}
 use Rattle.std.proofs.Math.Bool.{true, false}
@@ -10,7 +10,7 @@ use Rattle.std.proofs.Math.Numerals.{add-one}
 use Rattle.std.proofs.Math.ListN.{length}
 use Rattle.std.proofs.Math.Dec.{leb}
 use borrow.Author.Tests.{le-leb, lt-leb, leb-true, leb-false}
-use Rattle.rules.specs.Doc.Outcomes.{if◌then◌else◌, Outcome, fine, refused, ◌>>=◌, require}
+use Rattle.rules.specs.Doc.Outcomes.{Outcome, fine, refused, ◌>>=◌, require}
 use Rattle.rules.specs.Doc.Bytes.{number_at, field, sized}
 use Rattle.rules.specs.Doc.Walks.{Walk, bare, walked, judged, after, run, outcome}
 use Rattle.rules.specs.Doc.Iloc.{Sizes, Entry, Extent, extent_width, extent_at, extent_met, extents}

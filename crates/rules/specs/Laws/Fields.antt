@@ -1,7 +1,7 @@
 -- What a number that was read shows: it fits, and stands there.
-use Rattle.std.specs.Prelude.{◌≡◌, refl, ◌⊎◌, Bool, true, false, ◌||◌, List, ℕ, ◌+◌, ◌≤◌, ◌<◌, length, leb, eqb}
+use Rattle.std.specs.Prelude.{◌≡◌, refl, ◌⊎◌, Bool, true, false, ◌||◌, List, ℕ, ◌+◌, ◌≤◌, ◌<◌, length, leb, eqb, if◌then◌else◌}
 use Rattle.std.proofs.Common.{inl, inr, arith, leb-true, eqb-true}
-use Rattle.rules.specs.Doc.Outcomes.{if◌then◌else◌, fine, refused, require}
+use Rattle.rules.specs.Doc.Outcomes.{fine, refused, require}
 use Rattle.rules.specs.Doc.Bytes.{number_at, field, sized}
 use Rattle.rules.specs.Laws.Rows.{apart, bind_fine, required}
 

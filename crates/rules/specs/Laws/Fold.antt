@@ -1,11 +1,11 @@
 -- What a walk over boxes comes to, box by box: one equation at any level for a loop of the code to follow.
-use Rattle.std.specs.Prelude.{◌≡◌, ℕ, suc, ◌≤◌, ◌<◌, Bool, List, [], ◌∷◌, length}
+use Rattle.std.specs.Prelude.{◌≡◌, ℕ, suc, ◌≤◌, ◌<◌, Bool, List, [], ◌∷◌, length, if◌then◌else◌}
 use Rattle.std.proofs.Math.Path.{refl, sym, ap}
 use Rattle.std.proofs.Common.{◌∙◌, le-leb}
 use Rattle.std.proofs.Math.Bool.{true, false}
 use Rattle.std.proofs.Math.Option.{Option, none, some}
 use Rattle.std.proofs.lemmas.Bool.{lt-leb}
-use Rattle.rules.specs.Doc.Outcomes.{if◌then◌else◌, Outcome, fine, refused, ◌>>=◌, given}
+use Rattle.rules.specs.Doc.Outcomes.{Outcome, fine, refused, ◌>>=◌, given}
 use Rattle.rules.specs.Doc.Walks.{onward, halt, End, ended, cut_at, refused_at, stopped_at, Walk, bare, walked, judged, after, run, outcome}
 use Rattle.rules.specs.Doc.Headers.{ftyp, Header, header_at, body_size, Box, box_with, is, whole, skips, announced, box_at, child_at, file_box_at}
 use Rattle.rules.specs.Doc.Levels.{Level, tested, said, decided, box_step, level_step, boxes, counted_boxes, inside}

@@ -1,11 +1,10 @@
 -- "The last one is kept": what is said over a whole list equals a state that each thing of the list changes in its turn.
-use Rattle.std.specs.Prelude.{◌≡◌, Bool}
+use Rattle.std.specs.Prelude.{◌≡◌, Bool, if◌then◌else◌}
 use Rattle.std.proofs.Math.Path.{refl, sym, ap}
 use Rattle.std.proofs.Common.{◌∙◌}
 use Rattle.std.proofs.Math.Bool.{true, false}
 use Rattle.std.proofs.Math.Option.{Option, none, some, map}
 use mathlib.Core.List.{List, [], ◌∷◌, ◌++◌}
-use Rattle.rules.specs.Doc.Outcomes.{if◌then◌else◌}
 use Rattle.rules.specs.Doc.Lists.{only, last_of, each}
 use Rattle.rules.specs.Laws.Fold.{folded}
 

@@ -1,8 +1,8 @@
 -- A step that refuses only with numbers of a table, and that steps in a row and walks do if each of their steps does.
 use Prim.Native.Nat.{ℕ, zero, suc}
-use Rattle.std.specs.Prelude.{Bool, true, false}
+use Rattle.std.specs.Prelude.{Bool, true, false, if◌then◌else◌}
 use Rattle.std.proofs.Math.Option.{Option, none, some}
-use Rattle.rules.specs.Doc.Outcomes.{if◌then◌else◌, Outcome, fine, refused, ◌>>=◌, require, given}
+use Rattle.rules.specs.Doc.Outcomes.{Outcome, fine, refused, ◌>>=◌, require, given}
 use Rattle.rules.specs.Doc.Walks.{Then, onward, halt, Step, over, cut, met, End, ended, cut_at, refused_at, stopped_at, Walk, bare, walked, judged, after, run, outcome}
 use Rattle.rules.specs.Laws.Rows.{by_test}
 

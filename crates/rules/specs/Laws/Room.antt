@@ -1,8 +1,8 @@
 -- The room is the last test, whether the output is long enough for the block, else 28. What comes before it refuses neither with 0, the number of
 -- success, nor with 28.
-use Rattle.std.specs.Prelude.{◌≡◌, refl, ℕ, ◌<◌, Bool, true, false, List, length, leb}
+use Rattle.std.specs.Prelude.{◌≡◌, refl, ℕ, ◌<◌, Bool, true, false, List, length, leb, if◌then◌else◌}
 use Rattle.std.proofs.Common.{arith, leb-false}
-use Rattle.rules.specs.Doc.Outcomes.{if◌then◌else◌, Outcome, fine, refused}
+use Rattle.rules.specs.Doc.Outcomes.{Outcome, fine, refused}
 use Rattle.rules.specs.Doc.Answers.{answer_with}
 use Rattle.rules.specs.Laws.Numbered.{Within, with_number}
 

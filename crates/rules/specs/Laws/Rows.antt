@@ -1,8 +1,8 @@
 -- Steps in a row: what follows from how they ended, and that it doesn't matter how many are allowed, if they are enough.
-use Rattle.std.specs.Prelude.{◌≡◌, refl, ℕ, zero, suc, ◌-◌, ◌≤◌, Bool, true, false, ◌&&◌, ◌||◌, T}
+use Rattle.std.specs.Prelude.{◌≡◌, refl, ℕ, zero, suc, ◌-◌, ◌≤◌, Bool, true, false, ◌&&◌, ◌||◌, T, if◌then◌else◌}
 use Rattle.std.proofs.Common.{sym, arith, true≢false}
 use Rattle.std.proofs.Math.Option.{Option, none, some}
-use Rattle.rules.specs.Doc.Outcomes.{if◌then◌else◌, Outcome, fine, refused, ◌>>=◌, require, given}
+use Rattle.rules.specs.Doc.Outcomes.{Outcome, fine, refused, ◌>>=◌, require, given}
 
 pub apart : {A : Type 0} {a : A} {n : ℕ} → fine a ≡ refused n → ⊥
 apart e = let z : ◌≡◌ {A = ℕ} 0 1 = cc in omega arith

@@ -1,5 +1,5 @@
 -- Images of one length that agree on the bytes consulted have the same headers there, and the same boxes walked, at any level.
-use Rattle.std.specs.Prelude.{◌≡◌, ℕ, ◌+◌, ◌-◌, ◌≤◌, Bool, List, [], ◌∷◌, ◌++◌, length, ltb, eqb}
+use Rattle.std.specs.Prelude.{◌≡◌, ℕ, ◌+◌, ◌-◌, ◌≤◌, Bool, List, [], ◌∷◌, ◌++◌, length, ltb, eqb, if◌then◌else◌}
 use Rattle.std.proofs.Math.Path.{refl, sym, ap}
 use Rattle.std.proofs.Common.{ap₂, ◌∙◌}
 use native.Mathlib.Omega.{arith}
@@ -7,7 +7,7 @@ use Rattle.std.proofs.Math.Bool.{true, false}
 use Rattle.std.proofs.Math.Option.{Option, none, some}
 use Rattle.std.proofs.Math.Dec.{leb}
 use borrow.Author.Tests.{ltb-false}
-use Rattle.rules.specs.Doc.Outcomes.{if◌then◌else◌, Outcome, fine, refused, ◌>>=◌}
+use Rattle.rules.specs.Doc.Outcomes.{Outcome, fine, refused, ◌>>=◌}
 use Rattle.rules.specs.Doc.Lists.{only, each}
 use Rattle.rules.specs.Doc.Bytes.{number_at, positions, bytes_in}
 use Rattle.rules.specs.Doc.Walks.{Step, over, met, run}

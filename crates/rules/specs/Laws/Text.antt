@@ -1,7 +1,6 @@
 -- Numbers as text, digit by digit, and how many digits they have.
-use Rattle.std.specs.Prelude.{◌≡◌, refl, ℕ, zero, suc, ◌+◌, ◌-◌, ◌*◌, ◌/◌, ◌%◌, ◌^◌, ◌≤◌, ◌<◌, Bool, true, false, [], ◌∷◌, ◌++◌, length, ltb}
+use Rattle.std.specs.Prelude.{◌≡◌, refl, ℕ, zero, suc, ◌+◌, ◌-◌, ◌*◌, ◌/◌, ◌%◌, ◌^◌, ◌≤◌, ◌<◌, Bool, true, false, [], ◌∷◌, ◌++◌, length, ltb, if◌then◌else◌}
 use Rattle.std.proofs.Common.{◌∙◌, pow-suc, arith, length-append, lt-ltb, le-ltb, ltb-true, ltb-false}
-use Rattle.rules.specs.Doc.Outcomes.{if◌then◌else◌}
 use Rattle.rules.specs.Doc.Text.{digit, hex, decimal_to, decimal}
 use Rattle.rules.specs.Laws.Rows.{enough}
 
@@ -12,7 +11,7 @@ unfolding decimal_to
 digits_same f g n e = go (ltb n 10) refl
   where
     go : (t : Bool) → ltb n 10 ≡ t
-        → (if t then digit n ∷ [] else decimal_to f (n / 10) ++ (digit (n % 10) ∷ [])) ≡ (if t then digit n ∷ [] else decimal_to g (n / 10) ++ (digit (n % 10) ∷ []))
+        → (if t then digit n ∷ [] else (decimal_to f (n / 10) ++ (digit (n % 10) ∷ []))) ≡ (if t then digit n ∷ [] else (decimal_to g (n / 10) ++ (digit (n % 10) ∷ [])))
     go true l = refl
     go false l = rw (e (n / 10) (omega (arith, ltb-false n 10 l)))
 

@@ -1,8 +1,8 @@
 -- The files of all answers sum to the total.
-use Rattle.std.specs.Prelude.{◌≡◌, refl, ℕ, zero, suc, ◌+◌, ◌≤◌, ◌<◌, Bool, true, false, List, [], ◌∷◌, map, ltb, eqb}
+use Rattle.std.specs.Prelude.{◌≡◌, refl, ℕ, zero, suc, ◌+◌, ◌≤◌, ◌<◌, Bool, true, false, List, [], ◌∷◌, map, ltb, eqb, if◌then◌else◌}
 use Rattle.std.proofs.Common.{ap, ◌∙◌, arith, ne_eqb, eqb-true, ltb-false}
 use Rattle.std.proofs.lemmas.Bool.{eqb-false}
-use Rattle.rules.specs.Doc.Outcomes.{if◌then◌else◌, fine}
+use Rattle.rules.specs.Doc.Outcomes.{fine}
 use Rattle.rules.specs.Doc.Lists.{only}
 use Rattle.rules.specs.Doc.Bytes.{positions}
 use Rattle.sheet_rules.specs.Doc.Lines.{Entry}

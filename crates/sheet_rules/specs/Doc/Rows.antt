@@ -1,7 +1,6 @@
 -- A line of names, each with its number, as `answer=0 length=4`: how it is written, and how its numbers are read again.
-use Rattle.std.specs.Prelude.{ℕ, List, [], ◌∷◌, ◌++◌, length, drop}
+use Rattle.std.specs.Prelude.{ℕ, List, [], ◌∷◌, ◌++◌, length, drop, if◌then◌else◌}
 use Prim.Native.String.{String}
-use Rattle.rules.specs.Doc.Outcomes.{if◌then◌else◌}
 use Rattle.rules.specs.Doc.Text.{ascii, is_digit}
 use Rattle.rules.specs.Doc.Listing.{newline, named}
 use Rattle.rules.specs.Demands.Digits.{value_from}

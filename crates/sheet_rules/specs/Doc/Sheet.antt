@@ -1,7 +1,7 @@
 -- The counts and the totals of an input, and the sheet that is printed.
-use Rattle.std.specs.Prelude.{ℕ, suc, ◌+◌, Bool, List, [], ◌∷◌, ◌++◌, map, length, leb, ltb, eqb}
+use Rattle.std.specs.Prelude.{ℕ, suc, ◌+◌, Bool, List, [], ◌∷◌, ◌++◌, map, length, leb, ltb, eqb, if◌then◌else◌}
 use Prim.Native.String.{String}
-use Rattle.rules.specs.Doc.Outcomes.{if◌then◌else◌, Outcome, fine, refused, ◌>>=◌, require, given}
+use Rattle.rules.specs.Doc.Outcomes.{Outcome, fine, refused, ◌>>=◌, require, given}
 use Rattle.rules.specs.Doc.Lists.{only, each}
 use Rattle.rules.specs.Doc.Bytes.{positions}
 use Rattle.sheet_rules.specs.Doc.Rows.{row_text}

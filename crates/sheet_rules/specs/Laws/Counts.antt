@@ -1,7 +1,6 @@
 -- Counts and totals with one entry more, and how large they can be.
-use Rattle.std.specs.Prelude.{◌≡◌, refl, ℕ, suc, ◌+◌, ◌*◌, ◌≤◌, Bool, true, false, List, [], ◌∷◌, ◌++◌, length, ltb, eqb}
+use Rattle.std.specs.Prelude.{◌≡◌, refl, ℕ, suc, ◌+◌, ◌*◌, ◌≤◌, Bool, true, false, List, [], ◌∷◌, ◌++◌, length, ltb, eqb, if◌then◌else◌}
 use Rattle.std.proofs.Common.{sym, ◌∙◌, arith, eq-eqb, ne_eqb, ltb-true, ltb-false, le-ltb}
-use Rattle.rules.specs.Doc.Outcomes.{if◌then◌else◌}
 use Rattle.rules.specs.Doc.Lists.{only}
 use Rattle.rules.specs.Laws.Rows.{by_test}
 use Rattle.sheet_rules.specs.Doc.Lines.{Entry}

@@ -1,7 +1,6 @@
 -- The lines of an input, one at a time.
-use Rattle.std.specs.Prelude.{◌≡◌, refl, ℕ, ◌≤◌, Bool, true, false, List, [], ◌∷◌, ◌++◌, map, length, eqb}
+use Rattle.std.specs.Prelude.{◌≡◌, refl, ℕ, ◌≤◌, Bool, true, false, List, [], ◌∷◌, ◌++◌, map, length, eqb, if◌then◌else◌}
 use Rattle.std.proofs.Common.{ap, arith, append_assoc}
-use Rattle.rules.specs.Doc.Outcomes.{if◌then◌else◌}
 use Rattle.rules.specs.Doc.Lists.{any, each}
 use Rattle.rules.specs.Doc.Listing.{newline}
 use Rattle.rules.specs.Laws.Rows.{neither}
@@ -40,7 +39,7 @@ first_from : (c : ℕ) (s : List ℕ) → First (c ∷ s)
 unfolding lines onto on_first
 first_from c [] = record { line = c ∷ []; rest = []; splits = refl; is = go (eqb c 10) }
   where
-    go : (t : Bool) → (if t then (c ∷ []) ∷ [] else (c ∷ []) ∷ []) ≡ (c ∷ []) ∷ []
+    go : (t : Bool) → (if t then (c ∷ []) ∷ [] else ((c ∷ []) ∷ [])) ≡ (c ∷ []) ∷ []
     go true = refl
     go false = refl
 first_from c (d ∷ s) = go (eqb c 10) refl (first_from d s)

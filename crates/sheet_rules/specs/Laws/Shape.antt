@@ -1,9 +1,8 @@
 -- A line of the shape is the line of what it says, and the line of what is allowed is of the shape: so `entry_in` says what the request says. How long
 -- such a line can be.
-use Rattle.std.specs.Prelude.{◌≡◌, refl, ℕ, ◌≤◌, Bool, true, false, ◌&&◌, ◌||◌, ◌⊎◌, List, [], ◌∷◌, length, leb, eqb}
+use Rattle.std.specs.Prelude.{◌≡◌, refl, ℕ, ◌≤◌, Bool, true, false, ◌&&◌, ◌||◌, ◌⊎◌, List, [], ◌∷◌, length, leb, eqb, if◌then◌else◌}
 use Rattle.std.proofs.Common.{arith, inl, inr, length-append, leb-true, eqb-true, le-leb, eq-eqb}
 use Rattle.std.proofs.Math.Option.{none, some}
-use Rattle.rules.specs.Doc.Outcomes.{if◌then◌else◌}
 use Rattle.rules.specs.Doc.Lists.{same}
 use Rattle.rules.specs.Laws.Text.{two_digits, five_digits}
 use Rattle.rules.specs.Laws.Rows.{both_true}
