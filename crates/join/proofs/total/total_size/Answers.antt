@@ -1,0 +1,27 @@
+use mathlib.Core.Path.{refl}
+use native.Mathlib.Omega.{arith}
+use Rattle.rules.specs.Laws.Totals.{added_below, total_done, total_stop, total_next}
+use Rattle.join.specs.Answers.{extents_end}
+use Rattle.join.proofs.total.total_size.Goals as goal
+
+pub loop-k-init : goal.loop-k-init
+loop-k-init c = (refl, omega arith)
+
+pub read_extent-x-requires : goal.read_extent-x-requires
+read_extent-x-requires c = record { chose = c.requires; k_bound = c.loop-k-test.true }
+
+pub with_part-requires : goal.with_part-requires
+with_part-requires c = c.loop-k.invariant.1
+
+pub returns-in-Refused : goal.returns-in-Refused
+returns-in-Refused c =
+    let w = rw c.in-Refused.is at c.with_part.ensures in
+    total_stop _ _ c.loop-k.invariant.0 c.read_extent-x.ensures c.extent_place.ensures w
+
+pub loop-k-preserved : goal.loop-k-preserved
+loop-k-preserved c =
+    let w = rw c.in-Sum.is at c.with_part.ensures in
+    (total_next _ _ c.loop-k.invariant.0 c.read_extent-x.ensures c.extent_place.ensures w, added_below _ _ w)
+
+pub returns : goal.returns
+returns c = total_done _ _ c.loop-k.invariant.0 (extents_end _ _ _ c.requires c.loop-k-test.false)
