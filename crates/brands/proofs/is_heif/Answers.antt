@@ -1,0 +1,59 @@
+use native.Mathlib.Omega.{arith}
+use Rattle.boxes.specs.Loops.{box_refused, box_whole}
+use Rattle.brands.specs.Brands.{brand_none, brand_known, brand_other, heif_start, heif_done, heif_refused, heif_other, heif_small, heif_brands}
+use Rattle.brands.proofs.is_heif.Goals as goal
+
+pub boxes-init : goal.boxes-init
+boxes-init c = heif_start _
+
+pub slice_bounds-body-count : goal.slice_bounds-body-count
+slice_bounds-body-count c =
+    let b = box_whole _ _ (c.read.ensures 3) (c.child_box.ensures _) c.in-Whole.is in
+    b.order
+
+pub loop-i-init : goal.loop-i-init
+loop-i-init c =
+    let b = box_whole _ _ (c.read.ensures 3) (c.child_box.ensures _) c.in-Whole.is in
+    (omega arith, search (heif_brands, b))
+
+pub loop-i-preserved : goal.loop-i-preserved
+loop-i-preserved c = (omega arith, search brand_other)
+
+pub boxes-smaller : goal.boxes-smaller
+boxes-smaller c =
+    let b = box_whole _ _ (c.read.ensures 3) (c.child_box.ensures _) c.in-Whole.is in
+    b.less
+
+pub boxes-preserved : goal.boxes-preserved
+boxes-preserved c =
+    let b = box_whole _ _ (c.read.ensures 3) (c.child_box.ensures _) c.in-Whole.is in
+    search (heif_other, b)
+
+pub returns-then-buf-at : goal.returns-then-buf-at
+returns-then-buf-at c = search heif_done
+
+pub returns-in-Refused : goal.returns-in-Refused
+returns-in-Refused c =
+    let b = box_refused _ _ (c.read.ensures 3) (c.child_box.ensures _) c.in-Refused.is in
+    search heif_refused
+
+pub returns-then-body-lt-COMPATIBLE : goal.returns-then-body-lt-COMPATIBLE
+returns-then-body-lt-COMPATIBLE c =
+    let b = box_whole _ _ (c.read.ensures 3) (c.child_box.ensures _) c.in-Whole.is in
+    search (heif_small, b)
+
+pub returns-then-is_known : goal.returns-then-is_known
+returns-then-is_known c = search brand_known
+
+pub returns-after-loop-i : goal.returns-after-loop-i
+returns-after-loop-i c = search brand_none
+
+pub slice_bounds-body-start : goal.slice_bounds-body-start
+slice_bounds-body-start c =
+    let b = box_whole _ _ (c.read.ensures 3) (c.child_box.ensures _) c.in-Whole.is in
+    b.order
+
+pub slice_bounds-body-end : goal.slice_bounds-body-end
+slice_bounds-body-end c =
+    let b = box_whole _ _ (c.read.ensures 3) (c.child_box.ensures _) c.in-Whole.is in
+    b.inner
