@@ -1,7 +1,6 @@
 -- What the answers say: the values, or document 01's number; and of an answer with bytes, the bytes too.
 use Rattle.std.proofs.Math.Option.{Option, none, some}
 use Rattle.std.specs.Prelude.{List, ℕ}
-use Rattle.std.specs.Borrow.{Bor}
 use Rattle.rules.specs.Doc.Outcomes.{Outcome, fine, refused}
 use Rattle.boxes.specs.Told.{number, field_of}
 use Rattle.splitter.specs.declared.front.Sized.{Sized}
@@ -12,9 +11,9 @@ use Rattle.splitter.specs.declared.front.Array4.{Array4}
 use Rattle.splitter.specs.declared.piece.Piece.{Piece}
 use Rattle.splitter.specs.declared.splitter.BoxSplitter.{BoxSplitter}
 
--- the bytes behind a splitter that is lent
-abbrev pub held : Bor BoxSplitter → List ℕ
-held b = b.now.inner.now
+-- the bytes behind a splitter
+abbrev pub held : BoxSplitter → List ℕ
+held b = b.inner.now
 
 abbrev pub sized_of : Sized → Outcome (Option ℕ)
 sized_of (z.Got v) = fine (some v)

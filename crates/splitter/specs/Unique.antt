@@ -55,10 +55,10 @@ piece_same x y e = (field_one (ap (λ o. o.0) e) refl, ap (λ o. o.1) e)
 -- ---- The methods that move on
 
 -- what such a method's contract says of an answer and of the splitter after the call: what is told, and what is left
-abbrev pub Meets : {A B : Type 0} → (A → B) → B → List ℕ → A → Bor BoxSplitter → Type 0
+abbrev pub Meets : {A B : Type 0} → (A → B) → B → List ℕ → A → BoxSplitter → Type 0
 Meets tell told left r after = (tell r ≡ told) × (held after ≡ left)
 
-module _ {left : List ℕ} (after after' : Bor BoxSplitter) where
+module _ {left : List ℕ} (after after' : BoxSplitter) where
   -- where what is told determines the answer, no two outcomes meet it
   moved_one : {A B : Type 0} (tell : A → B) (Same : A → A → Type 0) → ((x y : A) → tell x ≡ tell y → Same x y) → {told : B} (x y : A)
       → Meets tell told left x after → Meets tell told left y after' → Same x y × (held after ≡ held after')

@@ -11,8 +11,8 @@ use crate::piece::{Piece, child_at, slice_front};
 use boxes::Number;
 
 // The rest of a box's bytes. Each method that is lent it by `&mut` has the same lines: what stands at the front is read by a function that is lent
-// the slice, the slice becomes what another leaves of it, and the answer is handed out. So one walk proves them all (proofs/Moving.antt). A
-// method that is passed no number has it in a local, where the walk finds a passed one.
+// the slice, the slice becomes what another leaves of it, and the answer is handed out. The branches stand in those two, so that no method needs
+// an answer in proofs/.
 #[derive(Drop)]
 pub struct BoxSplitter<'a> {
     pub inner: &'a [u8],
@@ -37,20 +37,20 @@ impl<'a> BoxSplitter<'a> {
     }
 
     pub fn is_empty(&self) -> bool
-        ensures { result ≡ eqb (length (held self.entry)) 0 }
+        ensures { result ≡ eqb (length (held self.now)) 0 }
     {
         empty(self.inner)
     }
 
     pub fn len(&self) -> usize
-        ensures { result ≡ length (held self.entry) }
+        ensures { result ≡ length (held self.now) }
     {
         length(self.inner)
     }
 
     // The type as a number and the body as a slice, in a struct: an enum can't hold a slice.
     pub fn child_box(&mut self) -> Piece<'a>
-        ensures { (piece_of result ≡ child_box_at (held self.entry) 0) × (held self.exit ≡ behind_box (held self.entry) 0) }
+        ensures { (piece_of result ≡ child_box_at (held self.old) 0) × (held self.new ≡ behind_box (held self.old) 0) }
     {
         let at = BoxSplitter::FRONT;
         let r = child_at(self.inner, BoxSplitter::FRONT);
@@ -60,7 +60,7 @@ impl<'a> BoxSplitter<'a> {
 
     // Another size than 0, 4 and 8 reads nothing, and is no refusal.
     pub fn size048(&mut self, size: usize) -> Sized
-        ensures { (sized_of result ≡ sized_front (held self.entry) size) × (held self.exit ≡ behind_sized (held self.entry) size) }
+        ensures { (sized_of result ≡ sized_front (held self.old) size) × (held self.new ≡ behind_sized (held self.old) size) }
     {
         let r = sized_front(self.inner, size);
         self.inner = behind_sized(self.inner, size);
@@ -68,7 +68,7 @@ impl<'a> BoxSplitter<'a> {
     }
 
     pub fn fullbox_header(&mut self) -> FullBox
-        ensures { (full_box_of result ≡ full_box_at (held self.entry) 0) × (held self.exit ≡ behind (held self.entry) 4) }
+        ensures { (full_box_of result ≡ full_box_at (held self.old) 0) × (held self.new ≡ behind (held self.old) 4) }
     {
         let n = BoxSplitter::UINT32;
         let r = fullbox_at(self.inner, BoxSplitter::FRONT);
@@ -77,7 +77,7 @@ impl<'a> BoxSplitter<'a> {
     }
 
     pub fn uint16(&mut self) -> Number
-        ensures { (field_of result ≡ field (held self.entry) 0 2) × (held self.exit ≡ behind (held self.entry) 2) }
+        ensures { (field_of result ≡ field (held self.old) 0 2) × (held self.new ≡ behind (held self.old) 2) }
     {
         let n = BoxSplitter::UINT16;
         let r = boxes::uint16(self.inner, BoxSplitter::FRONT);
@@ -86,7 +86,7 @@ impl<'a> BoxSplitter<'a> {
     }
 
     pub fn uint32(&mut self) -> Number
-        ensures { (field_of result ≡ field (held self.entry) 0 4) × (held self.exit ≡ behind (held self.entry) 4) }
+        ensures { (field_of result ≡ field (held self.old) 0 4) × (held self.new ≡ behind (held self.old) 4) }
     {
         let n = BoxSplitter::UINT32;
         let r = boxes::uint32(self.inner, BoxSplitter::FRONT);
@@ -95,7 +95,7 @@ impl<'a> BoxSplitter<'a> {
     }
 
     pub fn uint64(&mut self) -> Number
-        ensures { (field_of result ≡ field (held self.entry) 0 8) × (held self.exit ≡ behind (held self.entry) 8) }
+        ensures { (field_of result ≡ field (held self.old) 0 8) × (held self.new ≡ behind (held self.old) 8) }
     {
         let n = BoxSplitter::UINT64;
         let r = boxes::uint64(self.inner, BoxSplitter::FRONT);
@@ -104,7 +104,7 @@ impl<'a> BoxSplitter<'a> {
     }
 
     pub fn array4(&mut self) -> Array4
-        ensures { (array4_of result ≡ array4_at (held self.entry) 0) × (held self.exit ≡ behind (held self.entry) 4) }
+        ensures { (array4_of result ≡ array4_at (held self.old) 0) × (held self.new ≡ behind (held self.old) 4) }
     {
         let n = BoxSplitter::ARRAY4;
         let r = array4_at(self.inner, BoxSplitter::FRONT);
@@ -113,7 +113,7 @@ impl<'a> BoxSplitter<'a> {
     }
 
     pub fn slice(&mut self, n: usize) -> Piece<'a>
-        ensures { (piece_of result ≡ slice_front (held self.entry) n) × (held self.exit ≡ behind (held self.entry) n) }
+        ensures { (piece_of result ≡ slice_front (held self.old) n) × (held self.new ≡ behind (held self.old) n) }
     {
         let r = slice_front(self.inner, n);
         self.inner = behind(self.inner, n);
