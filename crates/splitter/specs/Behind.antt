@@ -1,6 +1,6 @@
 -- What a splitter has left, after success and after a refusal, as the Rust has: what was read is gone.
-use Rattle.std.specs.Prelude.{ℕ, ◌+◌, ◌-◌, ◌||◌, List, length, drop, leb, ltb, eqb}
-use Rattle.rules.specs.Doc.Outcomes.{if◌then◌else◌, Outcome, fine, refused}
+use Rattle.std.specs.Prelude.{ℕ, ◌+◌, ◌-◌, ◌||◌, List, length, drop, leb, ltb, eqb, if◌then◌else◌}
+use Rattle.rules.specs.Doc.Outcomes.{Outcome, fine, refused}
 use Rattle.rules.specs.Doc.Bytes.{number_at}
 use Rattle.rules.specs.Doc.Headers.{short, long, Box, child_at}
 

@@ -1,10 +1,10 @@
 -- What is left of the bytes after a call, where it succeeds and where it is refused: laws over `Front` and `Behind`.
-use Rattle.std.specs.Prelude.{◌≡◌, refl, ℕ, ◌+◌, ◌-◌, ◌≤◌, ◌<◌, Bool, true, false, ◌||◌, List, [], ◌++◌, length, take, drop, leb, ltb, eqb}
+use Rattle.std.specs.Prelude.{◌≡◌, refl, ℕ, ◌+◌, ◌-◌, ◌≤◌, ◌<◌, Bool, true, false, ◌||◌, List, [], ◌++◌, length, take, drop, leb, ltb, eqb, if◌then◌else◌}
 use Rattle.std.proofs.Common.{sym, ap, zero-add, length-drop, take-append-drop, ltb-false, le-leb, ne_eqb}
 use native.Mathlib.Omega.{arith}
 use Rattle.std.proofs.Math.Option.{Option, none, some}
 use Rattle.std.proofs.Math.Seq.{take-add}
-use Rattle.rules.specs.Doc.Outcomes.{if◌then◌else◌, Outcome, fine, refused, ◌>>=◌}
+use Rattle.rules.specs.Doc.Outcomes.{Outcome, fine, refused, ◌>>=◌}
 use Rattle.rules.specs.Doc.Bytes.{number_at, part, size_of, field}
 use Rattle.rules.specs.Doc.Headers.{Box, box_of, child_at}
 use Rattle.rules.specs.Laws.Rows.{apart, by_test}

@@ -21,8 +21,7 @@ pub enum FullBox {
     Refused(Refusal),
 }
 
-// Four bytes, and that there were four. (No function over an enum that holds an array is proved by the kit's own means.) Where they are refused none was
-// read, and all are 0.
+// Four bytes, and that there were four. Where they are refused none was read, and all are 0.
 #[derive(Clone, Copy)]
 pub struct Array4 {
     pub told: Number,

@@ -48,7 +48,7 @@ impl<'a> BoxSplitter<'a> {
         length(self.inner)
     }
 
-    // The type as a number and the body as a slice, in a struct: an enum can't hold a slice.
+    // The type as a number and the body as a slice, in a struct; of a box that is refused, no bytes.
     pub fn child_box(&mut self) -> Piece<'a>
         ensures { (piece_of result ≡ child_box_at (held self.old) 0) × (held self.new ≡ behind_box (held self.old) 0) }
     {
