@@ -1,5 +1,4 @@
 -- The definition's bounds of a digit are the code's.
-use borrow.Author.Rules.{rules}
 use Rattle.sheet_line.specs.Numbers.{digit_end, digit_below, digit_above, digit_there}
 use Rattle.sheet_line.proofs.digit_at.Goals as goal
 

@@ -1,9 +1,6 @@
-use mathlib.Core.Path.{◌≡◌, refl, sym}
-use Prim.Native.Nat.{◌≤◌, ◌-◌}
+use mathlib.Core.Path.{refl, sym}
 use native.Mathlib.Omega.{arith}
-use lib.ListN.{length, drop}
-use borrow.Author.Rules.{rules}
-use Rattle.sheet_line.specs.Numbers.{starts, starts_short, starts_more, starts_broken, starts_done}
+use Rattle.sheet_line.specs.Numbers.{starts_short, starts_more, starts_broken, starts_done}
 use Rattle.sheet_line.proofs.starts.Goals as goal
 
 pub returns-then-s-word : goal.returns-then-s-word

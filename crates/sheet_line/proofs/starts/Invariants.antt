@@ -1,10 +1,8 @@
 -- Each byte that was passed is the word's: so from `i` on the answer is decided as from the start on.
-use mathlib.Core.Path.{◌≡◌, refl, sym}
+use mathlib.Core.Path.{◌≡◌}
 use Prim.Native.Nat.{◌≤◌, ◌-◌}
-use native.Mathlib.Omega.{arith}
 use lib.ListN.{length, drop}
-use borrow.Author.Rules.{rules}
-use Rattle.sheet_line.specs.Numbers.{starts, starts_short, starts_more, starts_broken, starts_done}
+use Rattle.sheet_line.specs.Numbers.{starts}
 use Rattle.sheet_line.proofs.starts.Given as goal
 
 abbrev pub invariant-loop-i : goal.invariant-loop-i
