@@ -1,8 +1,6 @@
 -- The two numbers at hand have the divisor of the two passed, and the second grows less.
-use mathlib.Core.Path.{◌≡◌, refl, sym, ◌∙◌}
-use native.Mathlib.Nat.{pos_of_ne-zero, mod-lt}
+use mathlib.Core.Path.{◌≡◌}
 use Rattle.capture_rules.specs.Doc.Fraction.{gcd}
-use Rattle.capture_rules.specs.Laws.Euclid.{gcd_turn, gcd_none}
 use Rattle.fraction.proofs.gcd.Given as goal
 
 abbrev pub invariant-loop-y : goal.invariant-loop-y
