@@ -3,7 +3,7 @@ use Rattle.std.specs.Prelude.{◌≡◌, refl, List, ℕ}
 use Rattle.rules.specs.Doc.Outcomes.{Outcome, fine, refused}
 use Rattle.rules.specs.Laws.Back.{one}
 use Rattle.capture_rules.specs.Doc.Time as doc
-use Rattle.dates.specs.Told.{time_of, parsed_of}
+use Rattle.dates.specs.Told.{parsed_of}
 use Rattle.dates.specs.declared.Time.{Time}
 use Rattle.dates.specs.declared.Parsed.{Parsed}
 use Rattle.dates.specs.declared.Parsed.TheVariants.{Taken, NotATime}

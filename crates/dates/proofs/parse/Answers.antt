@@ -1,13 +1,8 @@
 -- The definition asks for the same three things in the same order, and refuses each with the same number.
 use mathlib.Core.Path.{sym, ◌∙◌}
-use borrow.Author.Tests.{not-false}
-use borrow.Author.Rules.{rules}
 use Rattle.capture_rules.specs.Doc.Time.{pattern}
 use Rattle.dates.specs.Steps.{time_unlike, time_no_date, time_no_clock, time_taken}
 use Rattle.dates.proofs.parse.Goals as goal
-
--- OLD slice_aggregate_alike : tie.Need-slice-aggregate-alike
--- slice_aggregate_alike c = search rules
 
 pub returns-then-not-alike : goal.returns-then-not-alike
 unfolding pattern
@@ -15,7 +10,7 @@ returns-then-not-alike c = search time_unlike
 
 pub time_in-found-requires : goal.time_in-found-requires
 unfolding pattern
-time_in-found-requires c = sym c.alike.ensures ∙ not-false _ c.if-not-alike.false
+time_in-found-requires c = sym c.alike.ensures ∙ c.if-not-alike.false
 
 pub returns-then-not-is_date : goal.returns-then-not-is_date
 unfolding pattern
@@ -27,6 +22,4 @@ returns-then-not-is_clock c = search time_no_clock
 
 pub returns : goal.returns
 unfolding pattern
-returns c =
-    time_taken _ c.alike.ensures c.if-not-alike.false c.time_in-found.ensures c.is_date_is.ensures
-    c.if-not-is_date.false c.is_clock.ensures c.if-not-is_clock.false
+returns c = search time_taken

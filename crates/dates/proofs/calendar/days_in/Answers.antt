@@ -1,7 +1,7 @@
 -- The arms name the same months as the definition.
-use mathlib.Core.Logic.{⊎_elim, inl, inr}
-use borrow.Author.Tests.{ne_eqb}
-use borrow.Author.Rules.{rules}
+use mathlib.Core.Logic.{⊎_elim}
+use Rattle.std.proofs.Common.{arith}
+use Rattle.std.proofs.lemmas.Grind.{common_steps}
 use Rattle.rules.specs.Doc.Lists.{any}
 use Rattle.capture_rules.specs.Doc.Time.{days_in}
 use Rattle.dates.proofs.calendar.days_in.Goals as goal
@@ -20,12 +20,4 @@ returns-in-4 c = ⊎_elim (λ e. rw e) (⊎_elim (λ e. rw e) (⊎_elim (λ e. r
 
 pub returns-in_default : goal.returns-in_default
 unfolding days_in any
-returns-in_default c =
-    let other = c.in_default.rest.1 in
-    rw (
-      ne_eqb _ 2 c.in_default.rest.0.1,
-      ne_eqb _ 4 (λ e. other (inl e)),
-      ne_eqb _ 6 (λ e. other (inr (inl e))),
-      ne_eqb _ 9 (λ e. other (inr (inr (inl e)))),
-      ne_eqb _ 11 (λ e. other (inr (inr (inr e)))),
-    )
+returns-in_default c = grind (arith, common_steps)

@@ -1,21 +1,26 @@
 -- The definition makes the same three tests, in the same order.
-use mathlib.Core.Path.{◌≡◌, ◌∙◌}
-use mathlib.Core.Bool.{◌&&◌}
-use mathlib.Core.Logic.{⊎_elim}
-use lib.Dec.{leb}
-use borrow.Author.Tests.{le-leb, lt-leb}
-use borrow.Author.Rules.{rules}
+use Rattle.std.proofs.Common.{◌≡◌, true, false, arith, sym, ◌∙◌, le-leb, leb-true}
+use Rattle.std.proofs.lemmas.Bool.{lt-leb}
 use Rattle.capture_rules.specs.Doc.Time.{between, is_date}
 use Rattle.dates.proofs.calendar.is_date.Goals as goal
-
--- year and month
-first_two : (c : tie.Joined1) → let t = c.before.before.args.t in c.if1.if2 ≡ (leb 1 t.year && between 1 12 t.month)
-first_two c = ⊎_elim (λ w. rw (le-leb _ _ w.0.taken) (w.2 ∙ w.1.ensures)) (λ w. let e = lt-leb _ _ w.0.left in rw e (w.1 ∙ e)) c.if1.branch
+use Rattle.dates.proofs.calendar.is_date.Goals.{then-t-ge1, else-t-ge1}
 
 pub returns-then-between : goal.returns-then-between
 unfolding is_date
-returns-then-between c = rw (is_date, ← first_two c, c.if-between.true, ← c.days_in.ensures) c.between-then-between.ensures
+returns-then-between c =
+    elim c.if-t-ge1.branch [
+      | then-t-ge1 w ↦
+          let k : between 1 12 c.args.t.month ≡ true = sym w.between.ensures ∙ sym w.value-is ∙ c.if-between.true in
+          rw (c.between-then-between.ensures, ← c.days_in.ensures, le-leb _ _ w.if-t-ge1.true, k)
+      | else-t-ge1 w ↦ absurd (omega (arith, leb-true _ _ (sym w.value-is ∙ c.if-between.true)))
+    ]
 
 pub returns-else-between : goal.returns-else-between
 unfolding is_date
-returns-else-between c = rw (is_date, ← first_two c, c.if-between.false)
+returns-else-between c =
+    elim c.if-t-ge1.branch [
+      | then-t-ge1 w ↦
+          let k : between 1 12 c.args.t.month ≡ false = sym w.between.ensures ∙ sym w.value-is ∙ c.if-between.false in
+          rw (c.if-between.false, le-leb _ _ w.if-t-ge1.true, k)
+      | else-t-ge1 w ↦ rw (c.if-between.false, lt-leb _ _ w.if-t-ge1.false)
+    ]

@@ -1,10 +1,6 @@
-use mathlib.Core.Path.{◌≡◌, refl}
-use Prim.Native.Nat.{◌≤◌, ◌-◌}
+use mathlib.Core.Path.{refl}
 use native.Mathlib.Omega.{arith}
-use lib.ListN.{length, drop}
-use Rattle.capture_rules.specs.Doc.Time.{alike}
 use Rattle.dates.specs.Steps.{alike_longer, alike_done, alike_broken, alike_more}
-use borrow.Author.Rules.{rules}
 use Rattle.dates.proofs.shape.alike.Goals as goal
 
 pub returns-then-value-pattern : goal.returns-then-value-pattern

@@ -1,11 +1,8 @@
 -- Each byte that was passed fits its place: so from `i` on the answer is decided as from the start on.
-use mathlib.Core.Path.{◌≡◌, refl}
+use mathlib.Core.Path.{◌≡◌}
 use Prim.Native.Nat.{◌≤◌, ◌-◌}
-use native.Mathlib.Omega.{arith}
 use lib.ListN.{length, drop}
 use Rattle.capture_rules.specs.Doc.Time.{alike}
-use Rattle.dates.specs.Steps.{alike_longer, alike_done, alike_broken, alike_more}
-use borrow.Author.Rules.{rules}
 use Rattle.dates.proofs.shape.alike.Given as goal
 
 abbrev pub invariant-loop-i : goal.invariant-loop-i

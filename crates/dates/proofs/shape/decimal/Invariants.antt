@@ -1,10 +1,7 @@
 -- `num` is the number that the first `i` digits make. It is below 10^i, so up to four digits never overflow.
-use mathlib.Core.Path.{◌≡◌, refl}
+use mathlib.Core.Path.{◌≡◌}
 use Prim.Native.Nat.{◌≤◌, ◌-◌}
-use native.Mathlib.Omega.{arith}
-use native.Mathlib.Numerals.{add-one}
 use Rattle.capture_rules.specs.Doc.Time.{decimal_at}
-use Rattle.capture_rules.specs.Laws.Shape.{decimal_below, decimal_room}
 use Rattle.dates.proofs.shape.decimal.Given as goal
 
 abbrev pub invariant-loop-i : goal.invariant-loop-i

@@ -1,6 +1,5 @@
 -- The definition makes the same test.
 use borrow.Author.Tests.{ne_eqb}
-use borrow.Author.Rules.{rules}
 use Rattle.capture_rules.specs.Doc.Time.{fits}
 use Rattle.dates.proofs.shape.fits.Goals as goal
 
