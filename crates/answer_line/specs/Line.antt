@@ -1,6 +1,5 @@
 -- The line of a case: the answer's number and length, a word with 1 or 0, and the whole output after the call.
-use Rattle.std.specs.Prelude.{◌≡◌, refl, ℕ, Bool, true, false, List, [], ◌∷◌, ◌++◌}
-use Rattle.rules.specs.Doc.Outcomes.{if◌then◌else◌}
+use Rattle.std.specs.Prelude.{◌≡◌, refl, ℕ, Bool, true, false, List, [], ◌∷◌, ◌++◌, if◌then◌else◌}
 use Rattle.rules.specs.Doc.Text.{ascii, digit, hex, decimal_to, decimal}
 use Rattle.rules.specs.Doc.Listing.{newline}
 use Rattle.rules.specs.Doc.Answers.{Answer}

@@ -1,12 +1,12 @@
 -- Brands one after another, and boxes up to the first `ftyp`: what the two loops follow.
-use Rattle.std.specs.Prelude.{◌≡◌, Bool, ◌||◌, List, length}
+use Rattle.std.specs.Prelude.{◌≡◌, Bool, ◌||◌, List, length, if◌then◌else◌}
 use Rattle.std.proofs.Math.Path.{refl, ap}
 use Rattle.std.proofs.Common.{sym, ◌∙◌}
 use Rattle.std.proofs.Math.Bool.{true, false}
 use Prim.Native.Nat.{ℕ, suc, ◌+◌, ◌-◌, ◌/◌, ◌≤◌, ◌<◌}
 use native.Mathlib.Omega.{arith}
 use borrow.Author.Tests.{le-leb, lt-leb, eq-eqb, ne_eqb}
-use Rattle.rules.specs.Doc.Outcomes.{if◌then◌else◌, Outcome, fine, refused, ◌>>=◌, require, is_fine}
+use Rattle.rules.specs.Doc.Outcomes.{Outcome, fine, refused, ◌>>=◌, require, is_fine}
 use Rattle.rules.specs.Doc.Lists.{any}
 use Rattle.rules.specs.Doc.Bytes.{number_at, part, bytes_in}
 use Rattle.rules.specs.Doc.Headers.{ftyp, Box, is, child_at}

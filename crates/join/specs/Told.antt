@@ -1,6 +1,6 @@
 -- What the answers say: document 01's number, or the values, of each case; and what the code's values stand for.
-use Rattle.std.specs.Prelude.{ℕ, List, length, eqb}
-use Rattle.rules.specs.Doc.Outcomes.{if◌then◌else◌, Outcome, fine, refused}
+use Rattle.std.specs.Prelude.{ℕ, List, length, eqb, if◌then◌else◌}
+use Rattle.rules.specs.Doc.Outcomes.{Outcome, fine, refused}
 use Rattle.rules.specs.Doc.Bytes.{Span}
 use Rattle.rules.specs.Doc.Iloc.{Extent}
 use Rattle.rules.specs.Doc.Join.{lies}

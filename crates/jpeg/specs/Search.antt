@@ -1,12 +1,12 @@
 -- The segments, one after another, up to the one that ends the search: what the loop follows.
 use Rattle.std.proofs.Math.Path.{◌≡◌, refl, ap}
 use Rattle.std.proofs.Common.{sym, ◌∙◌, arith}
-use Rattle.std.specs.Prelude.{Bool, ◌||◌, List, ℕ, ◌≤◌, ◌<◌, leb, ltb, eqb}
+use Rattle.std.specs.Prelude.{Bool, ◌||◌, List, ℕ, ◌≤◌, ◌<◌, leb, ltb, eqb, if◌then◌else◌}
 use Rattle.std.proofs.Math.Bool.{true, false}
 use Rattle.std.proofs.Math.Option.{Option, none, some}
 use Rattle.std.proofs.Math.ListN.{length}
 use borrow.Author.Tests.{le-leb, lt-leb}
-use Rattle.rules.specs.Doc.Outcomes.{if◌then◌else◌, Outcome, fine, refused, ◌>>=◌, require}
+use Rattle.rules.specs.Doc.Outcomes.{Outcome, fine, refused, ◌>>=◌, require}
 use Rattle.rules.specs.Doc.Bytes.{byte_at, Span}
 use Rattle.rules.specs.Doc.Walks.{Then, onward, halt, over, met, Walk, bare, walked, judged, after, run}
 use Rattle.rules.specs.Laws.Rows.{bind_fine, by_test}

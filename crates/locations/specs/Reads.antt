@@ -1,11 +1,11 @@
 -- What each function says, from what its reads say.
-use Rattle.std.specs.Prelude.{◌≡◌, Bool, List, ℕ, ◌+◌, ◌-◌, ◌*◌, ◌%◌, ◌^◌, ◌≤◌, ◌<◌, length, leb, eqb}
+use Rattle.std.specs.Prelude.{◌≡◌, Bool, List, ℕ, ◌+◌, ◌-◌, ◌*◌, ◌%◌, ◌^◌, ◌≤◌, ◌<◌, length, leb, eqb, if◌then◌else◌}
 use Rattle.std.proofs.Math.Path.{refl}
 use Rattle.std.proofs.Common.{sym, ap, ◌∙◌, mul-le-mul, le_of_lt, arith}
 use Rattle.std.proofs.Math.Bool.{true, false}
 use Rattle.std.proofs.Math.Nat.{zero-mul, add-zero}
 use borrow.Author.Tests.{le-leb, lt-leb, eq-eqb, ne_eqb}
-use Rattle.rules.specs.Doc.Outcomes.{if◌then◌else◌, Outcome, fine, refused, ◌>>=◌, require}
+use Rattle.rules.specs.Doc.Outcomes.{Outcome, fine, refused, ◌>>=◌, require}
 use Rattle.rules.specs.Doc.Bytes.{field, sized, version}
 use Rattle.rules.specs.Doc.Iloc.{Sizes, Table, id_size, sizes_of, base_size_of, table_of, method_size, in_file, Entry, entry_at}
 use Rattle.rules.specs.Doc.Iloc.{Extent, extent_width, extent_at, extents, is_wanted, entry_end, extents_test, entry_next}

@@ -1,12 +1,12 @@
 -- What is written of counts in a buffer of them, and that it is the sheet of what was counted.
-use Rattle.std.specs.Prelude.{◌≡◌, Bool, length, get_or}
+use Rattle.std.specs.Prelude.{◌≡◌, Bool, length, get_or, if◌then◌else◌}
 use Rattle.std.proofs.Math.Path.{refl, sym}
 use Prim.Native.Nat.{ℕ, zero, suc, ◌+◌, ◌^◌, ◌≤◌, ◌<◌}
 use native.Mathlib.Omega.{arith}
 use Rattle.std.proofs.Math.Bool.{true, false}
 use mathlib.Core.List.{List, [], ◌∷◌, ◌++◌, map, append_assoc, append-nil}
 use Rattle.std.proofs.Common.{length-append, lt-ltb, le-ltb}
-use Rattle.rules.specs.Doc.Outcomes.{if◌then◌else◌, refused}
+use Rattle.rules.specs.Doc.Outcomes.{refused}
 use Rattle.rules.specs.Doc.Lists.{only, each}
 use Rattle.rules.specs.Doc.Bytes.{positions}
 use Rattle.rules.specs.Doc.Text.{decimal}

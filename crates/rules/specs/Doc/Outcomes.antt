@@ -1,7 +1,6 @@
 -- A step goes on with a value, or is refused with a number of the table "Numbers given back".
 use Rattle.std.specs.Prelude.{ℕ, Bool, true, false, List, []}
 use Rattle.std.proofs.Math.Option.{Option, none, some}
-pub use Rattle.std.specs.Prelude.{if◌then◌else◌}
 
 infixl 2 ◌>>=◌
 pub data Outcome (A : Type 0) : Type 0 where
