@@ -1,6 +1,5 @@
 -- The definition asks for the wanted id first and for an `iloc` then, and so do the two `match`es.
 use Rattle.isobmff.specs.Children.{afterwards}
-use borrow.Author.Rules.{rules}
 use Rattle.isobmff.proofs.meta.after.Goals as goal
 
 pub returns-in-Unset : goal.returns-in-Unset

@@ -2,13 +2,8 @@
 use mathlib.Core.Path.{◌≡◌}
 use Prim.Native.Nat.{◌-◌}
 use lib.ListN.{length}
-use Rattle.rules.specs.Doc.Outcomes.{◌>>=◌}
-use Rattle.boxes.specs.Loops.{WholeBox, box_refused, box_whole}
-use Rattle.items.specs.Told.{ids_of}
-use Rattle.isobmff.specs.Told.{span_of, state_of}
-use Rattle.isobmff.specs.Children.{children_from, children_over, children_start, children_over_is}
-use Rattle.isobmff.specs.Children.{child_cut, child_iinf, child_iloc, child_idat, child_other}
-use borrow.Author.Rules.{rules}
+use Rattle.isobmff.specs.Told.{state_of}
+use Rattle.isobmff.specs.Children.{children_from, children_over}
 use Rattle.isobmff.proofs.meta.children.Given as goal
 
 abbrev pub invariant-loop-at : goal.invariant-loop-at

@@ -1,12 +1,8 @@
 -- The boxes from `at` on decide the answer, given whether an `ftyp` was met before; a box that is passed leads forward.
 use mathlib.Core.Path.{◌≡◌}
 use Prim.Native.Nat.{◌-◌}
-use native.Mathlib.Omega.{arith}
 use lib.ListN.{length}
-use Rattle.rules.specs.Doc.Outcomes.{◌>>=◌}
-use Rattle.isobmff.specs.Told.{next_of}
-use Rattle.isobmff.specs.Top.{opened_body, opened_from, opened_start, after_lead, lead_next, lead_done, on_ahead}
-use borrow.Author.Rules.{rules}
+use Rattle.isobmff.specs.Top.{opened_body, opened_from}
 use Rattle.isobmff.proofs.top.parse.Given as goal
 
 abbrev pub invariant-loop-at : goal.invariant-loop-at

@@ -2,7 +2,6 @@
 -- overflow; the definition has the sum (Top).
 use native.Mathlib.Omega.{arith}
 use Rattle.isobmff.specs.Top.{to_cut, to_whole}
-use borrow.Author.Rules.{rules}
 use Rattle.isobmff.proofs.top.read_file_level_box.Goals as goal
 
 pub returns-then-size-image : goal.returns-then-size-image

@@ -1,25 +1,9 @@
 -- Step after step as `ftyp_over` has them; the body that is lent lies inside, since its end was given.
-use Prim.Native.Nat.{◌≤◌}
-use native.Mathlib.Omega.{arith}
-use lib.ListN.{length}
 use Rattle.isobmff.specs.Top.{ftyp_over, to_inside}
-use borrow.Author.Rules.{rules}
 use Rattle.isobmff.proofs.top.read_ftyp.Goals as goal
 
--- the body lies in the image
-inside : (c : tie.After-to)
-    → let a = c.before.before.before.before.args in
-    (a.from ≤ c.to.given.0.0) × (c.to.given.0.0 ≤ length a.image.now)
-inside c = to_inside _ _ _ (rw c.to.given.1 at c.before.before.read-file-level-box.ensures)
-
--- OLD part_parse_ftyp_start : tie.Need-slice-bounds-parse-ftyp-start
--- part_parse_ftyp_start c = omega (arith, (inside c.before).0)
-
--- OLD part_parse_ftyp_end : tie.Need-slice-bounds-parse-ftyp-end
--- part_parse_ftyp_end c = (inside c.before).1
-
 pub slice_bounds-parse_ftyp-count : goal.slice_bounds-parse_ftyp-count
-slice_bounds-parse_ftyp-count c = (inside c).0
+slice_bounds-parse_ftyp-count c = (to_inside _ _ _ (rw c.in-To.is at c.read_file_level_box.ensures)).0
 
 pub returns-in-Refused : goal.returns-in-Refused
 unfolding ftyp_over
@@ -33,3 +17,9 @@ returns-in-Refused-parse_ftyp c =
 pub returns-in-Known : goal.returns-in-Known
 unfolding ftyp_over
 returns-in-Known c = rw (← c.read_file_level_box.ensures, c.in-To.is, ← c.parse_ftyp.ensures, c.in-Known.is)
+
+pub slice_bounds-parse_ftyp-start : goal.slice_bounds-parse_ftyp-start
+slice_bounds-parse_ftyp-start c = (to_inside _ _ _ (rw c.in-To.is at c.read_file_level_box.ensures)).0
+
+pub slice_bounds-parse_ftyp-end : goal.slice_bounds-parse_ftyp-end
+slice_bounds-parse_ftyp-end c = (to_inside _ _ _ (rw c.in-To.is at c.read_file_level_box.ensures)).1
