@@ -1,6 +1,6 @@
 -- From an answer of extraction to the number: a length fits into the lower half, so the halves say what the answer does.
 use Rattle.std.specs.Prelude.{◌≡◌, refl, ℕ, ◌/◌, ◌%◌, ◌^◌, ◌≤◌, ◌<◌, List, []}
-use Rattle.std.proofs.Common.{sym, ap, ◌∙◌, arith}
+use Rattle.std.proofs.Common.{ap, ◌∙◌, arith}
 use Rattle.rules.specs.Doc.Answers.{Answer}
 use Rattle.output.specs.Told.{told}
 use Rattle.output.specs.declared.Extracted.{Extracted}
