@@ -9,11 +9,11 @@ use Rattle.listing.proofs.list_boxes.Goals as goal
 pub put_last-requires : goal.put_last-requires
 put_last-requires c =
     let image = c.args.image.now in
-    rw (c.number.ensures, ← too_long image c.if-image-gt-LONGEST.true) (room_listing image)
+    rw (c.number.ensures, ← too_long image (omega (arith, c.if-image-gt-LONGEST.true))) (room_listing image)
 
 pub returns-then-image-gt-LONGEST : goal.returns-then-image-gt-LONGEST
 returns-then-image-gt-LONGEST c =
-    let long = too_long c.args.image.now c.if-image-gt-LONGEST.true in
+    let long = too_long c.args.image.now (omega (arith, c.if-image-gt-LONGEST.true)) in
     let told = rw (c.number.ensures, ← long) at (from_front c.put_last.ensures) in
     record { value = told.0; out_after = told.1 }
 
