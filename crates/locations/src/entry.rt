@@ -30,6 +30,7 @@ pub(crate) enum Parsed {
 }
 
 // The bytes of the construction method: version 0 has none.
+#[tactic(auto, unfolding(rules::specs::Doc::Iloc::method_size))]
 fn method_size(version: u64) -> usize
     ensures { (result ≡ method_size version) × (result ≤ 2) }
 {
@@ -51,6 +52,7 @@ fn parse_method(body: &[u8], at: usize, version: u64) -> Number
 }
 
 // A data reference is judged for method 0 only.
+#[tactic(auto, unfolding(rules::specs::Doc::Iloc::in_file))]
 fn in_file(construction_method: u64, data_ref_index: u64) -> bool
     ensures { result ≡ in_file construction_method data_ref_index }
 {
@@ -131,6 +133,7 @@ fn skip_extents(body: &[u8], table: Table, entry: Entry) -> Past
 }
 
 // The extents of the wanted item are judged. They share their sizes: the first one decides, and the others need only fit.
+#[tactic(auto, using(crate::specs::Reads::next_other, crate::specs::Reads::next_none))]
 pub(crate) fn past_extents(body: &[u8], table: Table, entry: Entry, item_id: u64) -> Past
     requires { Small (table_in table).sizes × EntryIn body.now (entry_in entry) }
     ensures { past_of result ≡ entry_next (table_in table) body.now item_id (entry_in entry) }

@@ -26,6 +26,7 @@ pub(crate) enum Head {
 }
 
 // The bytes of an id, and of the count of entries.
+#[tactic(auto, unfolding(rules::specs::Doc::Iloc::id_size))]
 pub(crate) fn id_size(version: u64) -> usize
     ensures { (result ≡ id_size version) × (result ≤ 4) }
 {
@@ -36,6 +37,7 @@ pub(crate) fn id_size(version: u64) -> usize
 }
 
 // An id, or the count of entries.
+#[tactic(auto, unfolding(rules::specs::Doc::Iloc::id_size))]
 pub(crate) fn parse_id(body: &[u8], at: usize, version: u64) -> Number
     ensures { field_of result ≡ field body.now at (id_size version) }
 {
@@ -46,6 +48,7 @@ pub(crate) fn parse_id(body: &[u8], at: usize, version: u64) -> Number
 }
 
 // The last of the four half-bytes; version 0 has no index.
+#[tactic(auto, unfolding(rules::specs::Doc::Iloc::sizes_of))]
 fn index_size(version: u64, halves: u64) -> usize
     ensures { result ≡ (sizes_of version halves).index }
 {
@@ -75,6 +78,7 @@ fn parse_count(body: &[u8], version: u64, halves: u64) -> Head
     }
 }
 
+#[tactic(auto, using(crate::specs::Reads::version_refused, crate::specs::Reads::version_known))]
 pub(crate) fn parse_head(body: &[u8]) -> Head
     ensures { head_of result ≡ table_of body.now }
 {

@@ -1,14 +1,7 @@
 -- All extents of an entry share their sizes, so the first one decides about the sizes for all, and then they need only fit together, as those of
 -- another item do. Of no extents nothing is asked.
-use Rattle.locations.specs.Reads.{next_other, next_none, next_refused, next_whole}
-use native.Mathlib.Omega.{arith}
+use Rattle.locations.specs.Reads.{next_refused, next_whole}
 use Rattle.locations.proofs.entry.past_extents.Goals as goal
-
-pub returns-then-entry-item_id : goal.returns-then-entry-item_id
-returns-then-entry-item_id c = next_other _ _ _ _ (λ e. omega arith) c.skip_extents.ensures
-
-pub returns-then-entry-eq0 : goal.returns-then-entry-eq0
-returns-then-entry-eq0 c = next_none _ _ _ _ c.requires.1.from c.if-entry-eq0.true
 
 pub returns-in-Refused : goal.returns-in-Refused
 returns-in-Refused c = let first = rw c.in-Refused.is at c.parse_extent.ensures in search next_refused
