@@ -2,10 +2,12 @@
 // then the image.
 #![tactic(auto)]
 
-ghost use Rattle.std.specs.Prelude.{◌≡◌, length, replicate};
+ghost use Rattle.std.specs.Prelude.{◌≡◌, length, replicate, IfOk};
 ghost use Rattle.case_reader.specs.Within.{Within};
 
-use libc::{STDIN_FILENO, STDOUT_FILENO};
+use input::read_full;
+use std::io;
+use std::io::{Read, Write};
 
 // The kind and the two lengths of a case; or the run is over.
 #[derive(Clone, Copy)]
@@ -19,42 +21,47 @@ pub enum Next {
 }
 
 // Ends the run with a line that says why.
-fn stop(case: u64, why: &[u8]) -> Next
-    ensures { result ≡ Next.Over }
+fn stop<W: Write>(case: u64, why: &str, out: &mut W) -> io::Result<Next>
+    ensures { IfOk result (λ next. next ≡ Next.Over) }
 {
-    io::write_all(STDOUT_FILENO, b"case=");
-    io::print_decimal(STDOUT_FILENO, case);
-    io::write_all(STDOUT_FILENO, why);
-    Next::Over
+    writeln!(out, "case={case} {why}")?;
+    Ok(Next::Over)
 }
 
 // Reads the case of that number, its image to the front of `image`. Its output may have `most` bytes at most. A run that is over too soon, because the
-// input ends inside the case or a length is more than is taken, says so by a line on standard output.
-pub fn next_case(case: u64, image: &mut [u8], most: usize) -> Next
-    ensures { Within (length image.new) most result }
+// input ends inside the case or a length is more than is taken, says so by a line on `out`. Where a read or that line fails, the error is answered, and
+// the case is not known.
+pub fn next_case<R: Read, W: Write>(
+    case: u64,
+    image: &mut [u8],
+    most: usize,
+    reader: &mut R,
+    out: &mut W,
+) -> io::Result<Next>
+    ensures { IfOk result (λ next. Within (length image.new) most next) }
 {
     let mut head = [0u8; 9];
-    let got = io::read_full(STDIN_FILENO, &mut head);
+    let got = read_full(reader, &mut head)?;
     if got == 0 {
-        return Next::Over;
+        return Ok(Next::Over);
     }
     if got < 9 {
-        return stop(case, b" cut\n");
+        return stop(case, "cut", out);
     }
     let kind = head[0];
     let n = endian::loadu32(&head, 1) as usize;
     let m = endian::loadu32(&head, 5) as usize;
     if image.len() < n || most < m {
-        return stop(case, b" too long\n");
+        return stop(case, "too long", out);
     }
-    if io::read_full(STDIN_FILENO, &mut image[..n]) < n {
-        return stop(case, b" cut\n");
+    if read_full(reader, &mut image[..n])? < n {
+        return stop(case, "cut", out);
     }
-    Next::Case {
+    Ok(Next::Case {
         kind: kind,
         image_len: n,
         out_len: m,
-    }
+    })
 }
 
 // What an output holds before it is lent: one byte everywhere, so that what was written and what was left alone can be told apart.
