@@ -2,15 +2,16 @@
 // is room for, and answers the place behind the last byte.
 #![tactic(auto)]
 
-ghost use Rattle.std.specs.Prelude.{◌≡◌, ◌%◌};
+ghost use Rattle.std.specs.Prelude.{◌≡◌, ◌%◌, IsTrue, length, take};
+ghost use Rattle.std.specs.Io.KnownBytes.{Appends};
 ghost use Rattle.rules.specs.Doc.Text.{digit, hex};
 ghost use Rattle.rules.specs.Doc.Listing.{printed};
 ghost use Rattle.output.specs.Told.{told};
 ghost use Rattle.output.specs.Copied.{Copied};
 ghost use Rattle.answer_line.specs.Line.{out_text, kind_text, answer_text};
 
-use libc::STDOUT_FILENO;
 use output::{Extracted, put};
+use std::io::Write;
 
 // The digit of the byte's lower half.
 fn digit(b: u8) -> u8
@@ -61,10 +62,19 @@ fn of_answer(answer: Extracted, word: &[u8], holds: bool, out: &[u8], line: &mut
     put(b"\n", 0, line, at)
 }
 
-// The line on standard output, made in `line`; the answer is whether all of it was written.
-pub fn print_line(answer: Extracted, word: &[u8], holds: bool, out: &[u8], line: &mut [u8]) -> bool
-    ensures { line.new ≡ printed (answer_text (told answer out.now) word.now holds) line.old }
+// The line to a writer, made in `line`; the answer is whether all of it was written.
+pub fn print_line<W: Write>(
+    answer: Extracted,
+    word: &[u8],
+    holds: bool,
+    out: &[u8],
+    line: &mut [u8],
+    writer: &mut W,
+) -> bool
+    ensures line_after { line.new ≡ printed (answer_text (told answer out.now) word.now holds) line.old }
+    ensures written { IsTrue result → Appends (W.contents writer.old) (W.contents writer.new)
+        (take (length line.old) (answer_text (told answer out.now) word.now holds)) }
 {
     let n = of_answer(answer, word, holds, out, line);
-    io::write_all(STDOUT_FILENO, &line[..n])
+    writer.write_all(&line[..n]).is_ok()
 }
