@@ -1,7 +1,8 @@
 -- What the proofs cite: the digits of bytes, and what was copied from the front on.
-use Rattle.std.specs.Prelude.{◌≡◌, refl, ℕ, ◌+◌, ◌-◌, ◌/◌, ◌%◌, ◌≤◌, ◌<◌, List, [], ◌∷◌, ◌++◌, length, take, get_or}
+use Rattle.std.specs.Prelude.{◌≡◌, refl, ℕ, ◌+◌, ◌-◌, ◌/◌, ◌%◌, ◌≤◌, ◌<◌, List, [], ◌∷◌, ◌++◌, length, take, drop, get_or}
 use Rattle.std.proofs.Common.{sym, ap, ◌∙◌, arith, add-one, append_assoc, append-nil, length-take, take-suc}
-use Rattle.std.proofs.Math.Seq.{length-sets}
+use native.Mathlib.Numerals.{unary_clauses}
+use Rattle.std.proofs.Math.Seq.{length-sets, take-append_seam}
 use Rattle.rules.specs.Doc.Text.{ascii, digit, hex}
 use Rattle.rules.specs.Doc.Listing.{printed}
 use Rattle.rules.specs.Laws.Over.{over_front}
@@ -46,3 +47,9 @@ copied_front {bytes} {before} c =
     let kept = length-sets before 0 bytes in
     let place = rw (length-take (length before - 0) bytes) at c.place in
     (rw c.buffer (omega (arith, kept, place)), c.buffer ∙ over_front bytes before)
+
+-- and as the bytes that are handed on
+pub copied_written : {bytes before after : List ℕ} {end : ℕ} → Copied bytes 0 before end after → take end after ≡ take (length before) bytes
+copied_written {bytes} {before} {after} {end} c =
+    let place : end ≡ length (take (length before) bytes) = omega (arith, simp unary_clauses at c.place) in
+    rw (place, c.buffer ∙ over_front bytes before) (take-append_seam (take (length before) bytes) (drop (length bytes) before))
