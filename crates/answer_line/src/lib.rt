@@ -12,6 +12,7 @@ ghost use Rattle.answer_line.specs.Line.{out_text, kind_text, answer_text};
 
 use output::{Extracted, put};
 use std::io::Write;
+use streams::write_all;
 
 // The digit of the byte's lower half.
 fn digit(b: u8) -> u8
@@ -76,5 +77,5 @@ pub fn print_line<W: Write>(
         (take (length line.old) (answer_text (told answer out.now) word.now holds)) }
 {
     let n = of_answer(answer, word, holds, out, line);
-    writer.write_all(&line[..n]).is_ok()
+    write_all(&line[..n], writer)
 }

@@ -5,7 +5,7 @@
 ghost use Rattle.std.specs.Prelude.{◌≡◌, length, replicate, IfOk};
 ghost use Rattle.case_reader.specs.Within.{Within};
 
-use input::read_full;
+use streams::read_full;
 use std::io;
 use std::io::{Read, Write};
 

@@ -1,11 +1,11 @@
-// Reading to the end of an input, or of the buffer that is lent for it.
+// Reading an input into a lent buffer, and writing whole.
 #![tactic(auto)]
 
-ghost use Rattle.std.specs.Prelude.{◌≤◌, ◌<◌, length, take, IfOk};
-ghost use Rattle.std.specs.Io.KnownBytes.{Consumes, IsAtEnd};
+ghost use Rattle.std.specs.Prelude.{◌≤◌, ◌<◌, length, take, IfOk, IsTrue};
+ghost use Rattle.std.specs.Io.KnownBytes.{Appends, Consumes, IsAtEnd};
 
 use std::io;
-use std::io::Read;
+use std::io::{Read, Write};
 
 // Reads until `buf` is full or the input ends, and answers how many bytes it put at the front of `buf`. It makes no call where `buf` is empty. Where a
 // read fails, what was read before is lost.
@@ -23,4 +23,11 @@ pub fn read_full<R: Read>(reader: &mut R, buf: &mut [u8]) -> io::Result<usize>
         done += n;
     }
     Ok(done)
+}
+
+// Writes all of `bytes`, and answers whether all of it was written; where a write fails, some of it may have been.
+pub fn write_all<W: Write>(bytes: &[u8], writer: &mut W) -> bool
+    ensures { IsTrue result → Appends (W.contents writer.old) (W.contents writer.new) bytes.now }
+{
+    writer.write_all(bytes).is_ok()
 }

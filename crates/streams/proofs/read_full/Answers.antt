@@ -1,7 +1,7 @@
 use Rattle.std.proofs.Common.{◌-◌, length, rules, sym, subst}
 use Rattle.std.specs.Io.KnownBytes.{Consumes}
-use Rattle.input.proofs.Filled.{filled, both}
-use Rattle.input.proofs.read_full.Goals as goal
+use Rattle.streams.proofs.Filled.{filled, both}
+use Rattle.streams.proofs.read_full.Goals as goal
 
 pub loop-done-preserved : goal.loop-done-preserved
 loop-done-preserved g c =
