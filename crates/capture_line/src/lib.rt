@@ -4,7 +4,8 @@
 mod bias;
 mod time;
 
-ghost use Rattle.std.specs.Prelude.{◌≡◌, ◌++◌, ◌≤◌, length, drop};
+ghost use Rattle.std.specs.Prelude.{◌≡◌, ◌++◌, ◌≤◌, length, drop, IsTrue};
+ghost use Rattle.std.specs.Io.KnownBytes.{Appends};
 ghost use Rattle.rules.specs.Doc.Outcomes.{fine, refused};
 ghost use Rattle.jpeg_rules.specs.Doc.Either.{either_answer};
 ghost use Rattle.rules.specs.Doc.Listing.{printed};
@@ -16,7 +17,8 @@ ghost use Rattle.capture_line.specs.Printable.{PrintableLine};
 
 use bias::put_bias;
 use capture::{Capture, Photo};
-use libc::STDOUT_FILENO;
+use std::io::Write;
+use streams::write_all;
 use time::put_time;
 
 // No line is longer (`line_limit` in capture_rules, Demands/Photo).
@@ -74,11 +76,12 @@ pub fn photo_line_whole(image: &[u8], block: &mut [u8], out: &mut [u8; LONGEST_L
     photo_line(image, block, out)
 }
 
-// The line on standard output; the answer is whether all of it was written.
-pub fn print_line(image: &[u8], block: &mut [u8]) -> bool
-    ensures { block.new ≡ (either_answer image.now block.old).output }
+// The line to a writer; the answer is whether all of it was written.
+pub fn print_line<W: Write>(image: &[u8], block: &mut [u8], writer: &mut W) -> bool
+    ensures block_after { block.new ≡ (either_answer image.now block.old).output }
+    ensures written { IsTrue result → Appends (W.contents writer.old) (W.contents writer.new) (line_text (photo image.now block.old)) }
 {
     let mut line = [0u8; LONGEST_LINE];
     let n = photo_line_whole(image, block, &mut line);
-    io::write_all(STDOUT_FILENO, &line[..n])
+    write_all(&line[..n], writer)
 }

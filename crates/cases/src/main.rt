@@ -3,8 +3,9 @@
 #![tactic(auto)]
 
 use case_reader::Next;
-use libc::STDOUT_FILENO;
 use listing::LONGEST_TEXT;
+use std::io;
+use std::io::{Read, Write};
 
 const MOST_IMAGE: usize = 1048576;
 
@@ -19,79 +20,131 @@ const BEFORE: u8 = 0xa5;
 
 const BEFORE_TEXT: u8 = b'.';
 
-// The answer, here and below, is whether to go on: whether standard output took what was printed last.
-fn show_heif(image: &[u8], out: &mut [u8], line: &mut [u8]) -> bool {
+// The answer, here and below, is whether to go on: whether standard output took what was printed.
+fn show_heif<W: Write>(image: &[u8], out: &mut [u8], line: &mut [u8], writer: &mut W) -> bool {
     case_reader::fill(BEFORE, out);
     let answered = isobmff::get_exif_attr(image, out);
-    answer_line::print_line(answered, b" heif=", brands::is_heif(image), out, line)
+    answer_line::print_line(
+        answered,
+        b" heif=",
+        brands::is_heif(image),
+        out,
+        line,
+        writer,
+    )
 }
 
-fn show_jpeg(image: &[u8], out: &mut [u8], line: &mut [u8]) -> bool {
+fn show_jpeg<W: Write>(image: &[u8], out: &mut [u8], line: &mut [u8], writer: &mut W) -> bool {
     case_reader::fill(BEFORE, out);
     let answered = jpeg::get_exif_attr(image, out);
-    answer_line::print_line(answered, b" jpeg=", jpeg::is_jpeg(image), out, line)
+    answer_line::print_line(answered, b" jpeg=", jpeg::is_jpeg(image), out, line, writer)
 }
 
-fn print_number(case: u64) {
-    io::write_all(STDOUT_FILENO, b"case=");
-    io::print_decimal(STDOUT_FILENO, case);
+fn print_number<W: Write>(case: u64, writer: &mut W) -> io::Result<()> {
+    write!(writer, "case={case}")
 }
 
-fn show_listing(case: u64, image: &[u8], out: &mut [u8]) -> bool {
+fn print_listing<W: Write>(case: u64, length: usize, out: &[u8], writer: &mut W) -> io::Result<()> {
+    print_number(case, writer)?;
+    writeln!(writer, " length={length}")?;
+    writer.write_all(out)?;
+    writeln!(writer)
+}
+
+fn show_listing<W: Write>(case: u64, image: &[u8], out: &mut [u8], writer: &mut W) -> bool {
     case_reader::fill(BEFORE_TEXT, out);
     let length = listing::list_boxes(image, out);
-    print_number(case);
-    io::write_all(STDOUT_FILENO, b" length=");
-    io::print_decimal(STDOUT_FILENO, length as u64);
-    io::write_all(STDOUT_FILENO, b"\n");
-    io::write_all(STDOUT_FILENO, out);
-    io::write_all(STDOUT_FILENO, b"\n")
+    print_listing(case, length, out, writer).is_ok()
 }
 
-fn show_unknown(case: u64) -> bool {
-    print_number(case);
-    io::write_all(STDOUT_FILENO, b" unknown\n")
+fn print_unknown<W: Write>(case: u64, writer: &mut W) -> io::Result<()> {
+    print_number(case, writer)?;
+    writeln!(writer, " unknown")
 }
 
-fn show(case: u64, kind: u8, image: &[u8], out: &mut [u8], line: &mut [u8]) -> bool {
+fn show_unknown<W: Write>(case: u64, writer: &mut W) -> bool {
+    print_unknown(case, writer).is_ok()
+}
+
+fn show<W: Write>(
+    case: u64,
+    kind: u8,
+    image: &[u8],
+    out: &mut [u8],
+    line: &mut [u8],
+    writer: &mut W,
+) -> bool {
     match kind {
-        b'h' => show_heif(image, out, line),
-        b'j' => show_jpeg(image, out, line),
-        b'l' => show_listing(case, image, out),
-        b't' => capture_line::print_line(image, out),
-        _ => show_unknown(case),
+        b'h' => show_heif(image, out, line, writer),
+        b'j' => show_jpeg(image, out, line, writer),
+        b'l' => show_listing(case, image, out, writer),
+        b't' => capture_line::print_line(image, out, writer),
+        _ => show_unknown(case, writer),
     }
 }
 
 // Reads one case and shows it, and says whether to go on.
-fn one(case: u64, image: &mut [u8], out: &mut [u8], line: &mut [u8]) -> bool {
+fn one<R: Read, W: Write>(
+    case: u64,
+    image: &mut [u8],
+    out: &mut [u8],
+    line: &mut [u8],
+    reader: &mut R,
+    writer: &mut W,
+) -> io::Result<bool> {
     let Next::Case {
         kind,
         image_len,
         out_len,
-    } = case_reader::next_case(case, image, out.len())
+    } = case_reader::next_case(case, image, out.len(), reader, writer)?
     else {
-        return false;
+        return Ok(false);
     };
-    show(case, kind, &image[..image_len], &mut out[..out_len], line)
+    Ok(show(
+        case,
+        kind,
+        &image[..image_len],
+        &mut out[..out_len],
+        line,
+        writer,
+    ))
 }
 
 // A proved loop has to end, and nothing says that standard input does. So the loop counts the cases, up to a number that no run reaches.
-fn run(image: &mut [u8], out: &mut [u8], line: &mut [u8]) {
+fn run<R: Read, W: Write>(
+    image: &mut [u8],
+    out: &mut [u8],
+    line: &mut [u8],
+    reader: &mut R,
+    writer: &mut W,
+) -> io::Result<()> {
     let mut case: u64 = 1;
-    while case < u64::MAX && one(case, image, out, line) {
+    while case < u64::MAX && one(case, image, out, line, reader, writer)? {
         case += 1;
     }
+    Ok(())
 }
 
 // Lends the arrays as slices: they live on the stack of `main`, once.
-fn lend(image: &mut [u8; MOST_IMAGE], out: &mut [u8; MOST_OUT], line: &mut [u8; MOST_LINE]) {
-    run(image, out, line);
+fn lend<R: Read, W: Write>(
+    image: &mut [u8; MOST_IMAGE],
+    out: &mut [u8; MOST_OUT],
+    line: &mut [u8; MOST_LINE],
+    reader: &mut R,
+    writer: &mut W,
+) -> io::Result<()> {
+    run(image, out, line, reader, writer)
 }
 
-fn main() {
+fn main(rt: HostRuntime) -> io::Result<()> {
     let mut image = [0u8; MOST_IMAGE];
     let mut out = [0u8; MOST_OUT];
     let mut line = [0u8; MOST_LINE];
-    lend(&mut image, &mut out, &mut line);
+    lend(
+        &mut image,
+        &mut out,
+        &mut line,
+        &mut rt.stdin(),
+        &mut rt.stdout(),
+    )
 }

@@ -2,51 +2,58 @@
 #![tactic(auto)]
 
 use boxes::Child;
-use libc::{STDIN_FILENO, STDOUT_FILENO};
+use std::io;
+use std::io::{Read, Write};
+use streams::read_full;
 
 const MOST_IMAGE: usize = 4096;
 
-fn say(name: &[u8], value: u64) {
-    io::write_all(STDOUT_FILENO, name);
-    io::print_decimal(STDOUT_FILENO, value);
+fn say<W: Write>(name: &str, value: u64, writer: &mut W) -> io::Result<()> {
+    write!(writer, "{name}{value}")
 }
 
-fn show(name: &[u8], bytes: &[u8]) {
-    io::write_all(STDOUT_FILENO, name);
+fn show<W: Write>(name: &str, bytes: &[u8], writer: &mut W) -> io::Result<()> {
+    write!(writer, "{name}")?;
     let counted = splitter::children(bytes);
     let first = counted.first;
     match first {
         Child::Whole { kind, from, to } => {
-            io::write_all(STDOUT_FILENO, b" type=");
-            io::print_hex(STDOUT_FILENO, kind as u64, 8);
-            say(b" from=", from as u64);
-            say(b" to=", to as u64);
+            write!(writer, " type={kind:08x}")?;
+            say(" from=", from as u64, writer)?;
+            say(" to=", to as u64, writer)?;
         }
-        Child::Refused(e) => say(b" answer=", e.number() as u64),
+        Child::Refused(e) => say(" answer=", e.number() as u64, writer)?,
     }
-    say(b" children=", counted.count as u64);
-    io::write_all(STDOUT_FILENO, b"\n");
+    say(" children=", counted.count as u64, writer)?;
+    writeln!(writer)
 }
 
 // The bytes from `from` to `to`, where the image has them.
-fn show_part(name: &[u8], image: &[u8], from: usize, to: usize) {
+fn show_part<W: Write>(
+    name: &str,
+    image: &[u8],
+    from: usize,
+    to: usize,
+    writer: &mut W,
+) -> io::Result<()> {
     if from <= to && to <= image.len() {
-        show(name, &image[from..to]);
+        show(name, &image[from..to], writer)?;
     }
+    Ok(())
 }
 
-fn run(image: &mut [u8]) {
-    let n = io::read_full(STDIN_FILENO, image);
+fn run<R: Read, W: Write>(image: &mut [u8], reader: &mut R, writer: &mut W) -> io::Result<()> {
+    let n = read_full(reader, image)?;
     let h = &image[..n];
-    show(b"H:", h);
-    show_part(b"in meta:", h, 32, 116);
-    show_part(b"in iinf:", h, 46, 67);
-    show_part(b"in ftyp:", h, 8, 20);
-    show_part(b"H without its last byte:", h, 0, 115);
-    show_part(b"no bytes:", h, 0, 0);
+    show("H:", h, writer)?;
+    show_part("in meta:", h, 32, 116, writer)?;
+    show_part("in iinf:", h, 46, 67, writer)?;
+    show_part("in ftyp:", h, 8, 20, writer)?;
+    show_part("H without its last byte:", h, 0, 115, writer)?;
+    show_part("no bytes:", h, 0, 0, writer)
 }
 
-fn main() {
+fn main(rt: HostRuntime) -> io::Result<()> {
     let mut image = [0u8; MOST_IMAGE];
-    run(&mut image);
+    run(&mut image, &mut rt.stdin(), &mut rt.stdout())
 }

@@ -6,13 +6,23 @@ ghost use Rattle.std.specs.Prelude.{length};
 ghost use Rattle.intake.specs.Within.{Within};
 
 use intake_line::LONGEST_BLOCK;
-use libc::{PATH_MAX, STDERR_FILENO};
+use std::env::{Env, FillError};
+use std::fs::Files;
+use std::io::Write;
+use std::{fs, io, str};
+use streams::read_full;
 
 // The longest image that is read.
 const LONGEST: usize = 6291456;
 
 // One byte more: so a longer image is seen to be longer, and need not be read on.
 const MOST_IMAGE: usize = LONGEST + 1;
+
+// No name of a file is longer, the byte behind it counted.
+const PATH_MAX: usize = 4096;
+
+// The system's number for a name that is longer.
+const ENAMETOOLONG: i32 = 36;
 
 // How many bytes a file has; or it was not read, and why was said.
 #[derive(Clone, Copy)]
@@ -21,80 +31,126 @@ enum Read {
     Unread,
 }
 
-fn say_longer(name: &[u8]) {
-    io::write_all(STDERR_FILENO, name);
-    io::write_all(STDERR_FILENO, b": longer than ");
-    io::print_decimal(STDERR_FILENO, LONGEST as u64);
-    io::write_all(STDERR_FILENO, b" bytes\n");
+fn say_longer<E: Write>(name: &[u8], errors: &mut E) -> io::Result<()> {
+    errors.write_all(name)?;
+    writeln!(errors, ": longer than {LONGEST} bytes")
 }
 
-// Reads to the end of the file, which has to come before the end of the buffer.
-fn read_image(fd: i32, name: &[u8], image: &mut [u8]) -> Read
+fn say_failed<E: Write>(name: &[u8], error: io::Error, errors: &mut E) -> io::Result<()> {
+    errors.write_all(name)?;
+    writeln!(errors, ": {error}")
+}
+
+// Reads to the end of the file, which has to come before the end of the buffer. What standard error doesn't take, here and below, is lost.
+fn read_image<F: io::Read, E: Write>(
+    file: &mut F,
+    name: &[u8],
+    image: &mut [u8],
+    errors: &mut E,
+) -> Read
     ensures { Within (length image.new) result }
 {
-    let mut done: usize = 0;
-    while done < image.len() {
-        let got = libc::read(fd, &mut image[done..]);
-        if got < 0 {
-            os::fail(name);
-            return Read::Unread;
+    match read_full(file, image) {
+        Ok(n) => {
+            if n < image.len() {
+                return Read::Whole(n);
+            }
+            let _ = say_longer(name, errors);
         }
-        let n = io::count(got, &image[done..]);
-        if n == 0 {
-            return Read::Whole(done);
+        Err(e) => {
+            let _ = say_failed(name, e, errors);
         }
-        done += n;
     }
-    say_longer(name);
     Read::Unread
 }
 
-// The answer, here and below, is whether to go on: whether standard output took the line, if there was one.
-fn take_file(name: &[u8], image: &mut [u8], block: &mut [u8; LONGEST_BLOCK]) -> bool {
-    let fd = os::open_read(name);
-    if fd < 0 {
-        os::fail(name);
-        return true;
+// A file's name is text in std: one that isn't can't be opened.
+fn open_file<S: Files>(name: &[u8], system: &S) -> io::Result<S::File> {
+    match str::from_utf8(name) {
+        Ok(path) => fs::open(system, path),
+        Err(_) => Err(io::Error::new(io::ErrorKind::InvalidFilename, "the name is not UTF-8")),
     }
-    let read = read_image(fd, name, image);
-    libc::close(fd);
+}
+
+// The answer, here and below, is whether to go on: whether standard output took the line, if there was one.
+fn take_file<S: Files, W: Write, E: Write>(
+    name: &[u8],
+    image: &mut [u8],
+    block: &mut [u8; LONGEST_BLOCK],
+    system: &S,
+    writer: &mut W,
+    errors: &mut E,
+) -> bool {
+    let read = match open_file(name, system) {
+        Ok(mut file) => read_image(&mut file, name, image, errors),
+        Err(e) => {
+            let _ = say_failed(name, e, errors);
+            return true;
+        }
+    };
     let Read::Whole(n) = read else {
         return true;
     };
-    intake_line::print_line(&image[..n], block)
+    intake_line::print_line(&image[..n], block, writer)
 }
 
-fn take_argument(
+// Behind the last argument there is nothing to go on with.
+fn take_argument<S: Files + Env, W: Write, E: Write>(
     i: usize,
     name: &mut [u8],
     image: &mut [u8],
     block: &mut [u8; LONGEST_BLOCK],
+    system: &S,
+    writer: &mut W,
+    errors: &mut E,
 ) -> bool {
-    let n = os::arg(i, name);
-    if os::errno() != 0 {
-        // It is longer than the buffer, which holds the front of it.
-        os::fail(name);
-        return true;
+    match system.arg(i, name) {
+        Ok(n) => take_file(&name[..n], image, block, system, writer, errors),
+        Err(FillError::TooLong) => {
+            // It is longer than the buffer, which holds the front of it.
+            let _ = say_failed(name, io::Error::from_raw_os_error(ENAMETOOLONG), errors);
+            true
+        }
+        Err(FillError::NotPresent) => false,
     }
-    take_file(&name[..n], image, block)
 }
 
-fn run(name: &mut [u8], image: &mut [u8], block: &mut [u8; LONGEST_BLOCK]) {
-    let count = os::arg_count();
+fn run<S: Files + Env, W: Write, E: Write>(
+    name: &mut [u8],
+    image: &mut [u8],
+    block: &mut [u8; LONGEST_BLOCK],
+    system: &S,
+    writer: &mut W,
+    errors: &mut E,
+) {
     let mut i: usize = 1;
-    while i < count && take_argument(i, name, image, block) {
+    while i < usize::MAX && take_argument(i, name, image, block, system, writer, errors) {
         i += 1;
     }
 }
 
 // Lends the arrays as slices: they live on the stack of `main`, once.
-fn lend(name: &mut [u8; PATH_MAX], image: &mut [u8; MOST_IMAGE], block: &mut [u8; LONGEST_BLOCK]) {
-    run(name, image, block);
+fn lend<S: Files + Env, W: Write, E: Write>(
+    name: &mut [u8; PATH_MAX],
+    image: &mut [u8; MOST_IMAGE],
+    block: &mut [u8; LONGEST_BLOCK],
+    system: &S,
+    writer: &mut W,
+    errors: &mut E,
+) {
+    run(name, image, block, system, writer, errors);
 }
 
-fn main() {
+fn main(rt: HostRuntime) {
     let mut name = [0u8; PATH_MAX];
     let mut image = [0u8; MOST_IMAGE];
     let mut block = [0u8; LONGEST_BLOCK];
-    lend(&mut name, &mut image, &mut block);
+    lend(
+        &mut name,
+        &mut image,
+        &mut block,
+        &rt,
+        &mut rt.stdout(),
+        &mut rt.stderr(),
+    );
 }

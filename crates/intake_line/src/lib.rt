@@ -1,7 +1,8 @@
 // The line that the intake writes for a file, HEIF or JPEG, as text in a lent buffer.
 #![tactic(auto)]
 
-ghost use Rattle.std.specs.Prelude.{◌≡◌, List, ◌++◌, ℕ, ◌≤◌, length, drop};
+ghost use Rattle.std.specs.Prelude.{◌≡◌, List, ◌++◌, ℕ, ◌≤◌, length, drop, IsTrue};
+ghost use Rattle.std.specs.Io.KnownBytes.{Appends};
 ghost use Rattle.jpeg_rules.specs.Doc.Either.{either_answer};
 ghost use Rattle.sheet_rules.specs.Doc.Lines.{line_text};
 ghost use Rattle.output.specs.Told.{told};
@@ -9,8 +10,9 @@ ghost use Rattle.output.specs.Copied.{Copied};
 ghost use Rattle.intake_line.specs.Line.{intake_text};
 ghost use Rattle.intake_line.specs.Told.{told_entry};
 
-use libc::STDOUT_FILENO;
 use output::Extracted;
+use std::io::Write;
+use streams::write_all;
 
 // No block is longer (`either_limit` in jpeg_rules, Demands/One), so extraction always has room.
 pub const LONGEST_BLOCK: usize = 65531;
@@ -47,11 +49,12 @@ pub fn file_line(
     told_line(image, block, line)
 }
 
-// The line on standard output; the answer is whether all of it was written.
-pub fn print_line(image: &[u8], block: &mut [u8; LONGEST_BLOCK]) -> bool
-    ensures { block.new ≡ (either_answer image.now block.old).output }
+// The line to a writer; the answer is whether all of it was written.
+pub fn print_line<W: Write>(image: &[u8], block: &mut [u8; LONGEST_BLOCK], writer: &mut W) -> bool
+    ensures block_after { block.new ≡ (either_answer image.now block.old).output }
+    ensures written { IsTrue result → Appends (W.contents writer.old) (W.contents writer.new) (intake_text image.now) }
 {
     let mut line = [0u8; LONGEST_LINE];
     let n = file_line(image, block, &mut line);
-    io::write_all(STDOUT_FILENO, &line[..n])
+    write_all(&line[..n], writer)
 }

@@ -3,24 +3,31 @@
 
 ghost use Rattle.std.specs.Prelude.{◌≤◌, length};
 
-use libc::{STDIN_FILENO, STDOUT_FILENO};
 use sheet::{LONGEST_SHEET, MOST_INPUT};
+use std::io;
+use std::io::{Read, Write};
+use streams::read_full;
 
-fn show(text: &[u8], n: usize)
+fn show<W: Write>(text: &[u8], n: usize, writer: &mut W) -> io::Result<()>
     requires { n ≤ length text.now }
 {
-    io::write_all(STDOUT_FILENO, &text[..n]);
+    writer.write_all(&text[..n])
 }
 
 // What doesn't fit into `input` is not read: the sheet is that of all of it.
-fn run(input: &mut [u8; MOST_INPUT], text: &mut [u8; LONGEST_SHEET]) {
-    let n = io::read_full(STDIN_FILENO, input);
+fn run<R: Read, W: Write>(
+    input: &mut [u8; MOST_INPUT],
+    text: &mut [u8; LONGEST_SHEET],
+    reader: &mut R,
+    writer: &mut W,
+) -> io::Result<()> {
+    let n = read_full(reader, input)?;
     let k = sheet::write_front_sheet(input, n, text);
-    show(text, k);
+    show(text, k, writer)
 }
 
-fn main() {
+fn main(rt: HostRuntime) -> io::Result<()> {
     let mut input = [0u8; MOST_INPUT];
     let mut text = [0u8; LONGEST_SHEET];
-    run(&mut input, &mut text);
+    run(&mut input, &mut text, &mut rt.stdin(), &mut rt.stdout())
 }

@@ -1,7 +1,9 @@
 // Says when the picture on standard input was taken, and its exposure bias: one line.
 #![tactic(auto)]
 
-use libc::{STDERR_FILENO, STDIN_FILENO};
+use std::io;
+use std::io::{Read, Write};
+use streams::read_full;
 
 // The longest image that is read.
 const LONGEST: usize = 6291456;
@@ -12,25 +14,40 @@ const MOST_IMAGE: usize = LONGEST + 1;
 // No block is longer, so extraction always has room.
 const MOST_BLOCK: usize = 65531;
 
-fn run(image: &mut [u8], block: &mut [u8]) {
-    let n = io::read_full(STDIN_FILENO, image);
+fn run<R: Read, W: Write, E: Write>(
+    image: &mut [u8],
+    block: &mut [u8],
+    reader: &mut R,
+    writer: &mut W,
+    errors: &mut E,
+) -> io::Result<()> {
+    let n = read_full(reader, image)?;
     if LONGEST < n {
-        io::write_all(
-            STDERR_FILENO,
-            b"photo_time: the image is longer than 6291456 bytes\n",
-        );
-        return;
+        return errors.write_all(b"photo_time: the image is longer than 6291456 bytes\n");
     }
-    capture_line::print_line(&image[..n], block);
+    capture_line::print_line(&image[..n], block, writer);
+    Ok(())
 }
 
 // Lends the arrays as slices: they live on the stack of `main`, once.
-fn lend(image: &mut [u8; MOST_IMAGE], block: &mut [u8; MOST_BLOCK]) {
-    run(image, block);
+fn lend<R: Read, W: Write, E: Write>(
+    image: &mut [u8; MOST_IMAGE],
+    block: &mut [u8; MOST_BLOCK],
+    reader: &mut R,
+    writer: &mut W,
+    errors: &mut E,
+) -> io::Result<()> {
+    run(image, block, reader, writer, errors)
 }
 
-fn main() {
+fn main(rt: HostRuntime) -> io::Result<()> {
     let mut image = [0u8; MOST_IMAGE];
     let mut block = [0u8; MOST_BLOCK];
-    lend(&mut image, &mut block);
+    lend(
+        &mut image,
+        &mut block,
+        &mut rt.stdin(),
+        &mut rt.stdout(),
+        &mut rt.stderr(),
+    )
 }
