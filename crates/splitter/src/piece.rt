@@ -8,7 +8,7 @@ ghost use Rattle.splitter.specs.Front.{fitting, taken, slice_front, type_at, bod
 use boxes::{Child, Header, Number, Refusal};
 
 // A part of the slice with a number: how many bytes it has, or the type of the box whose body it is. Where it is refused there are no bytes.
-#[derive(Drop)]
+#[derive(Clone, Copy)]
 pub struct Piece<'a> {
     pub told: Number,
     pub bytes: &'a [u8],

@@ -13,7 +13,7 @@ use boxes::Number;
 // The rest of a box's bytes. Each method that is lent it by `&mut` has the same lines: what stands at the front is read by a function that is lent
 // the slice, the slice becomes what another leaves of it, and the answer is handed out. The branches stand in those two, so that no method needs
 // an answer in proofs/.
-#[derive(Drop)]
+#[derive(Clone, Copy)]
 pub struct BoxSplitter<'a> {
     pub inner: &'a [u8],
 }
