@@ -1,5 +1,5 @@
--- No two outcomes meet the contract of `fill`. That of `next_case` determines neither its answer nor the bytes of the image: what is read on
--- standard input has no name in a contract.
+-- No two outcomes meet the contract of `fill`. That of `next_case` says what a case took of the input where the input's bytes are known (`Taken`).
+-- Those of standard input are not, and then it determines neither the answer nor the bytes of the image.
 use Rattle.std.specs.Prelude.{◌≡◌, List, ℕ, length, replicate}
 use Rattle.std.proofs.Common.{sym, ◌∙◌}
 

@@ -4,10 +4,11 @@
 
 ghost use Rattle.std.specs.Prelude.{◌≡◌, length, replicate, IfOk};
 ghost use Rattle.case_reader.specs.Within.{Within};
+ghost use Rattle.case_reader.specs.Taken.{Taken};
 
-use streams::read_full;
 use std::io;
 use std::io::{Read, Write};
+use streams::read_full;
 
 // The kind and the two lengths of a case; or the run is over.
 #[derive(Clone, Copy)]
@@ -38,7 +39,8 @@ pub fn next_case<R: Read, W: Write>(
     reader: &mut R,
     out: &mut W,
 ) -> io::Result<Next>
-    ensures { IfOk result (λ next. Within (length image.new) most next) }
+    ensures inside { IfOk result (λ next. Within (length image.new) most next) }
+    ensures taken { IfOk result (λ next. Taken (R.remaining reader.old) (R.remaining reader.new) image.new next) }
 {
     let mut head = [0u8; 9];
     let got = read_full(reader, &mut head)?;
