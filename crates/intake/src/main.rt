@@ -7,9 +7,10 @@ ghost use Rattle.intake.specs.Within.{Within};
 
 use intake_line::LONGEST_BLOCK;
 use std::env::{Env, FillError};
+use std::fmt::Write as _;
 use std::fs::Files;
 use std::io::Write;
-use std::{fs, io, str};
+use std::{fmt, fs, io, str};
 use streams::read_full;
 
 // The longest image that is read.
@@ -24,11 +25,50 @@ const PATH_MAX: usize = 4096;
 // The system's number for a name that is longer.
 const ENAMETOOLONG: i32 = 36;
 
+// Longer than what the system says of any error.
+const LONGEST_REASON: usize = 256;
+
 // How many bytes a file has; or it was not read, and why was said.
 #[derive(Clone, Copy)]
 enum Read {
     Whole(usize),
     Unread,
+}
+
+// Why a file was not read, in the system's words alone: `Display` puts their number behind them, ` (os error 2)`.
+#[derive(Drop)]
+struct Said {
+    bytes: [u8; LONGEST_REASON],
+    len: usize,
+    has_ended: bool,
+}
+
+impl Said {
+    fn reason(&self) -> &[u8] {
+        let n = if self.has_ended && self.len > 0 {
+            self.len - 1
+        } else {
+            self.len
+        };
+        let bytes = &self.bytes[..];
+        if n <= bytes.len() { &bytes[..n] } else { bytes }
+    }
+}
+
+impl fmt::Write for Said {
+    fn write_str(&mut self, text: &str) -> fmt::Result {
+        for b in text.as_bytes().iter() {
+            if *b == b'(' {
+                self.has_ended = true;
+            }
+            let len = self.len;
+            if !self.has_ended && len < LONGEST_REASON {
+                self.bytes[len] = *b;
+                self.len = len + 1;
+            }
+        }
+        Ok(())
+    }
 }
 
 fn say_longer<E: Write>(name: &[u8], errors: &mut E) -> io::Result<()> {
@@ -37,8 +77,16 @@ fn say_longer<E: Write>(name: &[u8], errors: &mut E) -> io::Result<()> {
 }
 
 fn say_failed<E: Write>(name: &[u8], error: io::Error, errors: &mut E) -> io::Result<()> {
+    let mut said = Said {
+        bytes: [0; LONGEST_REASON],
+        len: 0,
+        has_ended: false,
+    };
+    let _ = said.write(error);
     errors.write_all(name)?;
-    writeln!(errors, ": {error}")
+    errors.write_all(b": ")?;
+    errors.write_all(said.reason())?;
+    errors.write_all(b"\n")
 }
 
 // Reads to the end of the file, which has to come before the end of the buffer. What standard error doesn't take, here and below, is lost.
