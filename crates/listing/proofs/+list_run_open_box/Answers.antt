@@ -58,7 +58,7 @@ list_run-returns t c =
 
 pub open_box-returns-then-levels-eq0 : goal.open_box-returns-then-levels-eq0
 open_box-returns-then-levels-eq0 t c =
-    left_finished (left_all _ _ _) (box_deepest c.args.levels c.args.s.now (box_in c.args.found) c.if-levels-eq0.true)
+    left_finished (left_all _ _ _) (box_deepest c.args.levels c.args.s.now (box_in c.args.found) (omega (arith, c.if-levels-eq0.true)))
 
 pub open_box-list_run-requires : goal.open_box-list_run-requires
 open_box-list_run-requires t c =
