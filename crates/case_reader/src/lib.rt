@@ -2,7 +2,7 @@
 // then the image.
 #![tactic(auto)]
 
-ghost use Rattle.std.specs.Prelude.{◌≡◌, length, replicate, IfOk};
+ghost use Rattle.std.specs.Prelude.{◌≡◌, length, replicate, IfOk, OnErr};
 ghost use Rattle.case_reader.specs.Within.{Within};
 ghost use Rattle.case_reader.specs.Taken.{Taken};
 
@@ -41,6 +41,7 @@ pub fn next_case<R: Read, W: Write>(
 ) -> io::Result<Next>
     ensures inside { IfOk result (λ next. Within (length image.new) most next) }
     ensures taken { IfOk result (λ next. Taken (R.remaining reader.old) (R.remaining reader.new) image.new next) }
+    ensures err { OnErr result (length image.new ≡ length image.old) }
 {
     let mut head = [0u8; 9];
     let got = read_full(reader, &mut head)?;
