@@ -1,4 +1,4 @@
-# Sourced by `run`, `.ci/run`, `tests/run`, `tests/edits`, `cases/runs`, `cases/ends`, `oracle/compare` and `bench/native-staticlib`, in the repository's
+# Sourced by `run`, `.ci/run`, `.ci/quick`, `tests/run`, `tests/edits` and `bench/native-staticlib`, in the repository's
 # folder: where the Rattle kit is, and how what is proved is built and had. The script that sources it has a function `die STATUS WORDS..`.
 
 command -v rt >/dev/null || die 2 "rt, the Rattle kit's command, is not in the PATH"
