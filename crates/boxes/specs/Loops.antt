@@ -1,5 +1,5 @@
 -- A box in a loop over boxes: what `Header::read` and then `child_box` say of it, and where it lies.
-use Rattle.std.specs.Prelude.{◌≡◌, ℕ, ◌-◌, ◌≤◌, ◌<◌, List, length}
+use Rattle.std.specs.Prelude.{◌≡◌, ℕ, ◌-◌, ◌≤◌, ◌<◌, List, length, Result, Ok, Err}
 use Rattle.std.proofs.Common.{ap, ◌∙◌, arith}
 use Rattle.rules.specs.Doc.Outcomes.{Outcome, fine, refused}
 use Rattle.rules.specs.Doc.Bytes.{part, bytes_in}
@@ -9,7 +9,6 @@ use Rattle.rules.specs.Laws.Headers.{child_inside}
 use Rattle.boxes.specs.Told.{number, child}
 use Rattle.boxes.specs.declared.refusal.Refusal.{Refusal}
 use Rattle.boxes.specs.declared.level.Child.{Child}
-use Rattle.boxes.specs.declared.level.Child.TheVariants.{Whole, Refused}
 
 -- in the bytes `s`, the whole box at a position: document 01's (`is`); a loop may take its body (`order`, `inner`, `bytes`) and goes on behind it,
 -- with less left (`less`)
@@ -26,12 +25,12 @@ unfolding child_at box_at
 together s at read tried = tried ∙ ap (standing (whole 3 (length s))) read
 
 -- by what the two calls promise: `a` is what the header announces, `r` is the answer of `child_box`
-module _ (s : List ℕ) (at : ℕ) {a : Outcome Box} {r : Child} (read : a ≡ announced 3 s at)
+module _ (s : List ℕ) (at : ℕ) {a : Outcome Box} {r : Result Child Refusal} (read : a ≡ announced 3 s at)
     (tried : child at r ≡ standing (whole 3 (length s)) a) where
-  pub box_refused : {e : Refusal} → r ≡ Refused e → refused (number e) ≡ child_at s at
+  pub box_refused : {e : Refusal} → r ≡ Err e → refused (number e) ≡ child_at s at
   box_refused g = rw g at (together s at read tried)
 
-  pub box_whole : {kind from to : ℕ} → r ≡ Whole kind from to → WholeBox s at kind from to
+  pub box_whole : {c : Child} → r ≡ Ok c → WholeBox s at c.kind c.from c.to
   box_whole g =
       let b = rw g at (together s at read tried) in
       let i = child_inside s at b in

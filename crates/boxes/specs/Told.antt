@@ -1,17 +1,15 @@
 -- What the answers say: document 01's number, or the values, of each case.
-use Rattle.std.specs.Prelude.{ℕ, ◌+◌}
-use Rattle.rules.specs.Doc.Outcomes.{Outcome, fine, refused}
+use Rattle.std.specs.Prelude.{ℕ, ◌+◌, Result}
+use Rattle.rules.specs.Doc.Outcomes.{Outcome}
 use Rattle.rules.specs.Doc.Headers.{Box, box_of}
+use Rattle.rules.specs.Results.{outcome}
 use Rattle.boxes.specs.declared.refusal.Refusal.{Refusal}
 use Rattle.boxes.specs.declared.refusal.Refusal.TheVariants as r
 use Rattle.boxes.specs.declared.header.Header.{Header}
-use Rattle.boxes.specs.declared.header.Header.TheVariants as h
+use Rattle.boxes.specs.declared.header.Unread.{Unread}
+use Rattle.boxes.specs.declared.header.Unread.TheVariants as u
 use Rattle.boxes.specs.declared.level.Child.{Child}
-use Rattle.boxes.specs.declared.level.Child.TheVariants as c
 use Rattle.boxes.specs.declared.level.FileBox.{FileBox}
-use Rattle.boxes.specs.declared.level.FileBox.TheVariants as f
-use Rattle.boxes.specs.declared.field.Number.{Number}
-use Rattle.boxes.specs.declared.field.Number.TheVariants as n
 
 -- the table "Numbers given back", and the numbers that request three adds to it
 abbrev pub number : Refusal → ℕ
@@ -48,21 +46,20 @@ number r.NoMarker = 32
 number r.SegmentTooSmall = 33
 
 -- what a header at a position announces, where a cut one is `cut`
-abbrev pub announces : ℕ → ℕ → Header → Outcome Box
-announces cut at h.Cut = refused cut
-announces cut at h.Invalid = refused 4
-announces cut at (h.Read kind from size) = fine (box_of at kind from (from + size))
+abbrev pub unread : ℕ → Unread → ℕ
+unread cut u.Cut = cut
+unread cut u.Invalid = 4
+
+abbrev pub announces : ℕ → ℕ → Result Header Unread → Outcome Box
+announces cut at = outcome (unread cut) (λ h. box_of at h.kind h.from (h.from + h.size))
 
 -- of a box at a position, inside another and of a file
-abbrev pub child : ℕ → Child → Outcome Box
-child at (c.Whole kind from to) = fine (box_of at kind from to)
-child at (c.Refused e) = refused (number e)
+abbrev pub child : ℕ → Result Child Refusal → Outcome Box
+child at = outcome number (λ c. box_of at c.kind c.from c.to)
 
-abbrev pub file_box : ℕ → FileBox → Outcome Box
-file_box at (f.Found kind from size) = fine (box_of at kind from (from + size))
-file_box at (f.Refused e) = refused (number e)
+abbrev pub file_box : ℕ → Result FileBox Refusal → Outcome Box
+file_box at = outcome number (λ f. box_of at f.kind f.from (f.from + f.size))
 
 -- of a field
-abbrev pub field_of : Number → Outcome ℕ
-field_of (n.Got v) = fine v
-field_of (n.Refused e) = refused (number e)
+abbrev pub field_of : Result ℕ Refusal → Outcome ℕ
+field_of = outcome number (λ v. v)

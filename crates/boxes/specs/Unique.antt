@@ -1,23 +1,21 @@
 -- No two answers say the same, so each contract of this crate determines its function's answer.
-use Rattle.std.specs.Prelude.{◌≡◌, refl, ℕ, ◌+◌, ◌-◌, ◌≤◌, Bool, List, [], ◌∷◌, length, T, leb, eqb, if◌then◌else◌}
+use Rattle.std.specs.Prelude.{◌≡◌, refl, ℕ, ◌+◌, ◌-◌, ◌≤◌, Bool, List, [], ◌∷◌, length, T, leb, eqb, if◌then◌else◌, Result, Ok, Err}
 use Rattle.std.proofs.Common.{sym, ap, ap₂, ◌∙◌, arith, leb→le}
 use Rattle.rules.specs.Doc.Outcomes.{Outcome, fine, refused}
 use Rattle.rules.specs.Doc.Bytes.{size_of}
 use Rattle.rules.specs.Cases.{every}
-use Rattle.rules.specs.Doc.Headers.{Box, whole, announced, standing, file_box_at}
+use Rattle.rules.specs.Doc.Headers.{Box, box_of, whole, announced, standing, file_box_at}
 use Rattle.rules.specs.Laws.Back.{one}
 use Rattle.rules.specs.Laws.Rows.{both, by_test}
+use Rattle.rules.specs.Results.{outcome, result_one}
 use Rattle.boxes.specs.Told.{number, announces, child, file_box, field_of}
 use Rattle.boxes.specs.declared.refusal.Refusal.{Refusal}
 use Rattle.boxes.specs.declared.refusal.Refusal.TheVariants as r
 use Rattle.boxes.specs.declared.header.Header.{Header}
-use Rattle.boxes.specs.declared.header.Header.TheVariants as h
+use Rattle.boxes.specs.declared.header.Unread.{Unread}
+use Rattle.boxes.specs.declared.header.Unread.TheVariants as u
 use Rattle.boxes.specs.declared.level.Child.{Child}
-use Rattle.boxes.specs.declared.level.Child.TheVariants as c
 use Rattle.boxes.specs.declared.level.FileBox.{FileBox}
-use Rattle.boxes.specs.declared.level.FileBox.TheVariants as f
-use Rattle.boxes.specs.declared.field.Number.{Number}
-use Rattle.boxes.specs.declared.field.Number.TheVariants as n
 
 -- ---- Refusals
 
@@ -122,6 +120,11 @@ number_limit x =
 pub refusal_one : {x y : Refusal} → number x ≡ number y → x ≡ y
 refusal_one {x} {y} e = one number as_refusal refusal_back e refl
 
+-- a `Result` whose value can be told back is determined by what it says
+pub refusal_result_one : {A B : Type 0} (tell : A → B) (back : B → A) → ((a : A) → back (tell a) ≡ a)
+    → {o : Outcome B} {x y : Result A Refusal} → outcome number tell x ≡ o → outcome number tell y ≡ o → x ≡ y
+refusal_result_one tell back same e f = result_one number as_refusal refusal_back tell back same e f
+
 -- of `Refusal::number`
 pub refusal_number_one : (e : Refusal) {x y : ℕ} → x ≡ number e → y ≡ number e → x ≡ y
 refusal_number_one e p q = p ∙ sym q
@@ -133,62 +136,54 @@ left_one s at p q = p ∙ sym q
 -- ---- Headers
 
 -- from what is told with 0 and with 1 for a cut header: only of a cut one do they differ
-as_header : Outcome Box → Outcome Box → Header
-as_header (fine b) o = h.Read b.kind b.body.from (size_of b.body)
-as_header (refused m) (fine b) = h.Cut
-as_header (refused m) (refused n) = if eqb m n then h.Invalid else h.Cut
+as_header : Outcome Box → Outcome Box → Result Header Unread
+as_header (fine b) o = Ok (record { kind = b.kind; from = b.body.from; size = size_of b.body })
+as_header (refused m) (fine b) = Err u.Cut
+as_header (refused m) (refused n) = if eqb m n then Err u.Invalid else Err u.Cut
 
 size_back : (from size : ℕ) → from + size - from ≡ size
 size_back from size = omega arith
 
-header_back : (at : ℕ) (x : Header) → as_header (announces 0 at x) (announces 1 at x) ≡ x
+header_back : (at : ℕ) (x : Result Header Unread) → as_header (announces 0 at x) (announces 1 at x) ≡ x
 unfolding as_header
-header_back at h.Cut = refl
-header_back at h.Invalid = refl
-header_back at (h.Read kind from size) = rw (size_back from size)
+header_back at (Err u.Cut) = refl
+header_back at (Err u.Invalid) = refl
+header_back at (Ok h) = rw (size_back h.from h.size)
 
-pub header_one : (s : List ℕ) (at : ℕ) {x y : Header}
+pub header_one : (s : List ℕ) (at : ℕ) {x y : Result Header Unread}
     → ((cut : ℕ) → announces cut at x ≡ announced cut s at) → ((cut : ℕ) → announces cut at y ≡ announced cut s at) → x ≡ y
 header_one s at {x} {y} e f = sym (header_back at x) ∙ (ap₂ as_header (e 0 ∙ sym (f 0)) (e 1 ∙ sym (f 1)) ∙ header_back at y)
 
 -- ---- Boxes
 
-pub as_child : Outcome Box → Child
-as_child (fine b) = c.Whole b.kind b.body.from b.body.to
-as_child (refused n) = c.Refused (as_refusal n)
+box_child : Box → Child
+box_child b = record { kind = b.kind; from = b.body.from; to = b.body.to }
 
-pub child_back : (at : ℕ) (x : Child) → as_child (child at x) ≡ x
-unfolding as_child
-child_back at (c.Whole kind from to) = refl
-child_back at (c.Refused e) = ap c.Refused (refusal_back e)
+pub as_child : Outcome Box → Result Child Refusal
+as_child (fine b) = Ok (box_child b)
+as_child (refused n) = Err (as_refusal n)
 
-pub child_one : (s : List ℕ) (h : Header) {x y : Child}
+pub child_back : (at : ℕ) (x : Result Child Refusal) → as_child (child at x) ≡ x
+unfolding as_child box_child
+child_back at (Ok c) = refl
+child_back at (Err e) = ap Err (refusal_back e)
+
+pub child_one : (s : List ℕ) (h : Result Header Unread) {x y : Result Child Refusal}
     → ((at : ℕ) → child at x ≡ standing (whole 3 (length s)) (announces 3 at h))
     → ((at : ℕ) → child at y ≡ standing (whole 3 (length s)) (announces 3 at h)) → x ≡ y
 child_one s h e f = one (child 0) as_child (child_back 0) (e 0) (f 0)
 
-as_file_box : Outcome Box → FileBox
-as_file_box (fine b) = f.Found b.kind b.body.from (size_of b.body)
-as_file_box (refused n) = f.Refused (as_refusal n)
+box_file : Box → FileBox
+box_file b = record { kind = b.kind; from = b.body.from; size = size_of b.body }
 
-file_back : (at : ℕ) (x : FileBox) → as_file_box (file_box at x) ≡ x
-unfolding as_file_box
-file_back at (f.Found kind from size) = rw (size_back from size)
-file_back at (f.Refused e) = ap f.Refused (refusal_back e)
+file_same : (at : ℕ) (f : FileBox) → box_file (box_of at f.kind f.from (f.from + f.size)) ≡ f
+unfolding box_file
+file_same at f = rw (size_back f.from f.size)
 
-pub file_one : (s : List ℕ) (at : ℕ) {x y : FileBox} → file_box at x ≡ file_box_at s at → file_box at y ≡ file_box_at s at → x ≡ y
-file_one s at e f = one (file_box at) as_file_box (file_back at) e f
+pub file_one : (s : List ℕ) (at : ℕ) {x y : Result FileBox Refusal} → file_box at x ≡ file_box_at s at → file_box at y ≡ file_box_at s at → x ≡ y
+file_one s at e f = refusal_result_one _ box_file (file_same at) e f
 
 -- ---- Fields, of each of the functions that give a number
 
-as_number : Outcome ℕ → Number
-as_number (fine v) = n.Got v
-as_number (refused k) = n.Refused (as_refusal k)
-
-field_back : (x : Number) → as_number (field_of x) ≡ x
-unfolding as_number
-field_back (n.Got v) = refl
-field_back (n.Refused e) = ap n.Refused (refusal_back e)
-
-pub field_one : {o : Outcome ℕ} {x y : Number} → field_of x ≡ o → field_of y ≡ o → x ≡ y
-field_one e f = one field_of as_number field_back e f
+pub field_one : {o : Outcome ℕ} {x y : Result ℕ Refusal} → field_of x ≡ o → field_of y ≡ o → x ≡ y
+field_one e f = refusal_result_one (λ v. v) (λ v. v) (λ v. refl) e f

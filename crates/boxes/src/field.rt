@@ -1,68 +1,58 @@
 // The fields of a box, at a position.
-ghost use Rattle.std.specs.Prelude.{◌≡◌};
+ghost use Rattle.std.specs.Prelude.{◌≡◌, ◌≤◌};
 ghost use Rattle.rules.specs.Doc.Bytes.{field, sized, version};
 ghost use Rattle.boxes.specs.Told.{number, field_of};
 
-use crate::left;
 use crate::refusal::Refusal;
 
-// A number that was read, or why there is none: one type for every width.
-#[derive(Clone, Copy)]
-pub enum Number {
-    Got(u64),
-    Refused(Refusal),
+// A field of `n` bytes: one function for every width.
+#[tactic(auto, using(rules::specs::Laws::Numbers::field_in, rules::specs::Laws::Numbers::field_out))]
+fn uint(s: &[u8], at: usize, n: usize) -> Result<u64, Refusal>
+    requires { n ≤ 8 }
+    ensures { field_of result ≡ field s.now at n }
+{
+    if s.len() < at || s.len() - at < n {
+        return Err(Refusal::BoxTooSmall);
+    }
+    Ok(endian::load_big(s, at, n))
 }
 
-pub fn uint16(s: &[u8], at: usize) -> Number
+pub fn uint16(s: &[u8], at: usize) -> Result<u64, Refusal>
     ensures { field_of result ≡ field s.now at 2 }
 {
-    if left(s, at) < 2 {
-        return Number::Refused(Refusal::BoxTooSmall);
-    }
-    Number::Got(endian::loadu16(s, at) as u64)
+    uint(s, at, 2)
 }
 
-pub fn uint32(s: &[u8], at: usize) -> Number
+pub fn uint32(s: &[u8], at: usize) -> Result<u64, Refusal>
     ensures { field_of result ≡ field s.now at 4 }
 {
-    if left(s, at) < 4 {
-        return Number::Refused(Refusal::BoxTooSmall);
-    }
-    Number::Got(endian::loadu32(s, at) as u64)
+    uint(s, at, 4)
 }
 
-pub fn uint64(s: &[u8], at: usize) -> Number
+pub fn uint64(s: &[u8], at: usize) -> Result<u64, Refusal>
     ensures { field_of result ≡ field s.now at 8 }
 {
-    if left(s, at) < 8 {
-        return Number::Refused(Refusal::BoxTooSmall);
-    }
-    Number::Got(endian::loadu64(s, at))
+    uint(s, at, 8)
 }
 
 // A number of 0, 4 or 8 bytes; another size is refused as the caller says. No bytes make 0, but not past the end.
-pub fn size048(s: &[u8], at: usize, size: usize, other: Refusal) -> Number
+#[tactic(auto, unfolding(rules::specs::Doc::Bytes::sized), using(rules::specs::Laws::Numbers::sized_out))]
+pub fn size048(s: &[u8], at: usize, size: usize, other: Refusal) -> Result<u64, Refusal>
     ensures { field_of result ≡ sized s.now at size (number other) }
 {
     match size {
-        0 => {
-            if s.len() < at {
-                return Number::Refused(Refusal::BoxTooSmall);
-            }
-            Number::Got(0)
-        }
+        0 => uint(s, at, 0),
         4 => uint32(s, at),
         8 => uint64(s, at),
-        _ => Number::Refused(other),
+        _ => Err(other),
     }
 }
 
 // The version, the top byte of four. Nothing in the core reads the flags, the other three.
-pub fn fullbox_header(s: &[u8], at: usize) -> Number
+#[tactic(auto, unfolding(rules::specs::Doc::Bytes::version))]
+pub fn fullbox_header(s: &[u8], at: usize) -> Result<u64, Refusal>
     ensures { field_of result ≡ version s.now at }
 {
-    match uint32(s, at) {
-        Number::Refused(e) => Number::Refused(e),
-        Number::Got(head) => Number::Got(head / 0x1000000),
-    }
+    let head = uint32(s, at)?;
+    Ok(head / 0x1000000)
 }

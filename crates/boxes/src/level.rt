@@ -3,33 +3,35 @@ ghost use Rattle.std.specs.Prelude.{◌≡◌, ℕ, length};
 ghost use Rattle.rules.specs.Doc.Headers.{whole, standing, file_box_at};
 ghost use Rattle.boxes.specs.Told.{announces, child, file_box};
 
-use crate::header::Header;
+use crate::header::{Header, Unread};
 use crate::refusal::Refusal;
 
-// A box inside another: its type and where its body is, or why there is none.
+// A box inside another: its type and where its body is.
 #[derive(Clone, Copy)]
-pub enum Child {
-    Whole { kind: u32, from: usize, to: usize },
-    Refused(Refusal),
+pub struct Child {
+    pub kind: u32,
+    pub from: usize,
+    pub to: usize,
 }
 
 // What is said of a header inside a box, whose bytes are `s`: the rest of the Rust's `child_box`.
 // With `Header::read` inside it would be too long to be folded into the loops over child boxes, so a loop calls the two.
-pub fn child_box(s: &[u8], header: Header) -> Child
+#[tactic(auto, using(rules::specs::Laws::Decision::child_cut, rules::specs::Laws::Decision::child_whole))]
+pub fn child_box(s: &[u8], header: Result<Header, Unread>) -> Result<Child, Refusal>
     ensures { (at : ℕ) → child at result ≡ standing (whole 3 (length s.now)) (announces 3 at header) }
 {
     match header {
-        Header::Cut => Child::Refused(Refusal::BoxTooSmall),
-        Header::Invalid => Child::Refused(Refusal::InvalidBoxSize),
-        Header::Read { kind, from, size } => {
+        Err(Unread::Cut) => Err(Refusal::BoxTooSmall),
+        Err(Unread::Invalid) => Err(Refusal::InvalidBoxSize),
+        Ok(Header { kind, from, size }) => {
             if s.len() < from || size > (s.len() - from) as u64 {
-                return Child::Refused(Refusal::BoxTooSmall);
+                return Err(Refusal::BoxTooSmall);
             }
-            Child::Whole {
-                kind: kind,
-                from: from,
+            Ok(Child {
+                kind,
+                from,
                 to: from + size as usize,
-            }
+            })
         }
     }
 }
@@ -47,34 +49,29 @@ const LARGE: u64 = 0x8000_0000_0000_0000;
 
 // A box of a file: its body may run past the end.
 #[derive(Clone, Copy)]
-pub enum FileBox {
-    Found { kind: u32, from: usize, size: u64 },
-    Refused(Refusal),
+pub struct FileBox {
+    pub kind: u32,
+    pub from: usize,
+    pub size: u64,
 }
 
 // `read_box_header` of the Rust, with the test of `skip_file_level_box`.
-pub fn file_box(s: &[u8], at: usize) -> FileBox
+#[tactic(auto, unfolding(rules::specs::Doc::Headers::file_box_at, rules::specs::Doc::Headers::box_at), using(rules::specs::Laws::Decision::file_opened, rules::specs::Laws::Decision::file_skipped, rules::specs::Laws::Decision::file_large))]
+pub fn file_box(s: &[u8], at: usize) -> Result<FileBox, Refusal>
     ensures { file_box at result ≡ file_box_at s.now at }
 {
     match Header::read(s, at) {
-        Header::Cut => FileBox::Refused(Refusal::ImageEnds),
-        Header::Invalid => FileBox::Refused(Refusal::InvalidBoxSize),
-        Header::Read { kind, from, size } => {
-            let found = FileBox::Found {
-                kind: kind,
-                from: from,
-                size: size,
-            };
-            match kind {
-                FTYP | META => found,
-                _ => {
-                    if size < LARGE {
-                        found
-                    } else {
-                        FileBox::Refused(Refusal::LargeSeek)
-                    }
+        Err(Unread::Cut) => Err(Refusal::ImageEnds),
+        Err(Unread::Invalid) => Err(Refusal::InvalidBoxSize),
+        Ok(Header { kind, from, size }) => match kind {
+            FTYP | META => Ok(FileBox { kind, from, size }),
+            _ => {
+                if size < LARGE {
+                    Ok(FileBox { kind, from, size })
+                } else {
+                    Err(Refusal::LargeSeek)
                 }
             }
-        }
+        },
     }
 }

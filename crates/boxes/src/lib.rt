@@ -8,8 +8,8 @@ mod refusal;
 
 ghost use Rattle.std.specs.Prelude.{◌≡◌, ◌-◌, length};
 
-pub use field::{Number, fullbox_header, size048, uint16, uint32, uint64};
-pub use header::Header;
+pub use field::{fullbox_header, size048, uint16, uint32, uint64};
+pub use header::{Header, Unread};
 pub use level::{Child, FTYP, FileBox, IINF, META, child_box, file_box};
 pub use refusal::Refusal;
 
@@ -17,5 +17,5 @@ pub use refusal::Refusal;
 pub fn left(s: &[u8], at: usize) -> usize
     ensures { result ≡ length s.now - at }
 {
-    if at <= s.len() { s.len() - at } else { 0 }
+    s.len().saturating_sub(at)
 }

@@ -13,13 +13,6 @@ pub enum Endian {
     Little,
 }
 
-// A function of its own, so that `load` need not show at each use that a byte is below 256.
-fn wide(b: u8) -> u64
-    ensures { (result ≡ b) × (result < 256) }
-{
-    b as u64
-}
-
 // Of the `n` bytes from `from`, where the `i`-th highest stands.
 fn place(order: Endian, from: usize, n: usize, i: usize) -> usize
     requires { (i < n) × (from + n < 2 ^ 64) }
@@ -36,11 +29,9 @@ fn load(order: Endian, buf: &[u8], from: usize, n: usize) -> u64
     requires { (n ≤ 8) × (from + n ≤ length buf.now) }
     ensures { (result ≡ number_in (endian_of order) buf.now from n) × (result < 256 ^ n) }
 {
-    let mut num: u64 = 0;
-    let mut i: usize = 0;
-    while i < n {
-        num = num * 256 + wide(buf[place(order, from, n, i)]);
-        i += 1;
+    let mut num = 0;
+    for i in 0..n {
+        num = num * 256 + u64::from(buf[place(order, from, n, i)]);
     }
     num
 }
@@ -62,7 +53,7 @@ impl Endian {
 }
 
 // Big-endian, as the fields of boxes are. That `number_at` is the big-endian number is shown here, once for all widths.
-fn load_big(buf: &[u8], from: usize, n: usize) -> u64
+pub fn load_big(buf: &[u8], from: usize, n: usize) -> u64
     requires { (n ≤ 8) × (from + n ≤ length buf.now) }
     ensures { (result ≡ number_at buf.now from n) × (result < 256 ^ n) }
 {

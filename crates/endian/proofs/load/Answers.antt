@@ -12,23 +12,13 @@ loop-i-init c = (omega arith, refl)
 
 pub overflow_mul-num : goal.overflow_mul-num
 overflow_mul-num c =
-    let i = c.loop-i.i in
-    let g = c.type_inv.buf in
     let a = c.args in
-    omega (arith, digits_room (endian_of a.order) a.buf.now a.from a.n g i (omega arith))
+    omega (arith, digits_room (endian_of a.order) a.buf.now a.from a.n c.type_inv.buf c.loop-i.i (omega arith))
 
 pub overflow_add-num : goal.overflow_add-num
 overflow_add-num c =
-    let i = c.loop-i.i in
-    let g = c.type_inv.buf in
     let a = c.args in
-    omega (arith, digits_room (endian_of a.order) a.buf.now a.from a.n g i (omega arith))
-
-pub overflow_add-i : goal.overflow_add-i
-overflow_add-i c = omega arith
-
-pub loop-i-smaller : goal.loop-i-smaller
-loop-i-smaller c = omega arith
+    omega (arith, digits_room (endian_of a.order) a.buf.now a.from a.n c.type_inv.buf c.loop-i.i (omega arith))
 
 pub loop-i-preserved : goal.loop-i-preserved
 unfolding number_of
@@ -38,7 +28,6 @@ pub returns : goal.returns
 unfolding number_in
 returns c =
     let i = c.loop-i in
-    let g = c.type_inv.buf in
     let a = c.args in
     let e : i.i ≡ a.n = omega arith in
-    rw (i.invariant.1, e) (refl, number_in_below (endian_of a.order) a.buf.now a.from a.n g)
+    rw (i.invariant.1, e) (refl, number_in_below (endian_of a.order) a.buf.now a.from a.n c.type_inv.buf)
