@@ -1,8 +1,10 @@
 -- What it is to copy bytes to a buffer from a place on, as many as there is room for; and that parts copied one behind the other are one copy.
-use Rattle.std.specs.Prelude.{◌≡◌, refl, Bool, true, false, List, [], ◌++◌, ℕ, suc, ◌+◌, ◌-◌, ◌≤◌, ◌<◌, leb, length, take, drop, get_or, set}
-use Rattle.std.proofs.Common.{sym, ◌∙◌, arith, add-one, length-set, length-take, length-append, length-take-le, take_all, drop-cons, leb-true, leb-false}
+use Rattle.std.specs.Prelude.{◌≡◌, refl, ◌⊎◌, min, Bool, true, false, List, ◌++◌, ℕ, ◌+◌, ◌-◌, ◌≤◌, leb, length, take, drop}
+use Rattle.std.proofs.Common.{sym, ap, ◌∙◌, arith, inl, inr, length-take, length-append, length-take-le, take_all, take-append-drop, append_assoc, drop-drop, drop_of_length-le, leb-true, leb-false}
 use Rattle.std.proofs.Math.Seq.{length-sets, take-nil}
-use Rattle.std.proofs.lemmas.List.Edits.{sets}
+use Rattle.std.proofs.Math.Decide.{dec_le}
+use Rattle.std.proofs.lemmas.List.Edits.{sets, sets-eq}
+use borrow.Rule.Slice.PartMut.{put_mid}
 use Rattle.rules.specs.Laws.Over.{over_full, over_append}
 
 -- `before` and `after` are the buffer, `end` is the place behind the last byte that there was room for. The others `sets` leaves out.
@@ -10,25 +12,42 @@ pub record Copied (bytes : List ℕ) (at : ℕ) (before : List ℕ) (end : ℕ) 
   pub place : end ≡ at + length (take (length before - at) bytes)
   pub buffer : after ≡ sets before at bytes
 
--- ---- Where a copy ends, and one byte of it
+-- ---- One copy
 
-pub copied_none : (at : ℕ) (out : List ℕ) → Copied [] at out at out
-copied_none at out = record { place = rw (take-nil (length out - at)) (omega arith); buffer = refl }
-
-pub copied_full : (bytes : List ℕ) (at : ℕ) (out : List ℕ) → length out ≤ at → Copied bytes at out at out
-copied_full bytes at out h =
+-- where there is nothing to copy, or no room
+pub copied_none : (part : List ℕ) (skip at : ℕ) (out : List ℕ) → (length part ≤ skip) ⊎ (length out ≤ at) → Copied (drop skip part) at out at out
+copied_none part skip at out (inl h) =
+    rw (drop_of_length-le part h)
+    (record { place = rw (take-nil (length out - at)) (omega arith); buffer = refl })
+copied_none part skip at out (inr h) =
     let none : length out - at ≡ 0 = omega arith in
-    record { place = rw none (omega arith); buffer = sym (over_full out at bytes h) }
+    record { place = rw none (omega arith); buffer = sym (over_full out at (drop skip part) h) }
 
-pub copied_more : (s : List ℕ) {i at end : ℕ} {before after : List ℕ} → i < length s → at < length before
-    → Copied (drop (i + 1) s) (at + 1) (set before at (get_or s i 0)) end after → Copied (drop i s) at before end after
-copied_more s {i} {at} {end} {before} h k c =
-    let room : length before - at ≡ suc (length before - suc at) = omega arith in
-    let place = rw (add-one i, add-one at, length-set before at (get_or s i 0)) at c.place in
-    record {
-      place = rw (drop-cons s i 0 h, room) (omega (arith, place));
-      buffer = rw (drop-cons s i 0 h) (rw (add-one i, add-one at) at c.buffer);
-    }
+-- what is laid over the output is the first n bytes, where n are as many as there is room for
+over_first : (bytes : List ℕ) (at n : ℕ) (out : List ℕ) → (n ≡ length bytes) ⊎ (length out ≤ at + n) → n ≤ length bytes
+    → sets out at (take n bytes) ≡ sets out at bytes
+over_first bytes at n out (inl e) h = ap (sets out at) (take_all n bytes (omega arith))
+over_first bytes at n out (inr full) h =
+    let k : length (take n bytes) ≡ n = length-take-le n bytes h in
+    let l = length-sets out at (take n bytes) in
+    sym (over_full (sets out at (take n bytes)) (at + length (take n bytes)) (drop n bytes) (omega arith))
+    ∙ sym (over_append (take n bytes) (drop n bytes) out at)
+    ∙ ap (sets out at) (take-append-drop n bytes)
+
+pub copied_room : (bytes : List ℕ) (at n : ℕ) (out after : List ℕ) → n ≡ min (length bytes) (length out - at) → at ≤ length out
+    → after ≡ put_mid at n out (take n bytes) → Copied bytes at out (at + n) after
+copied_room bytes at n out after e h a = elim (dec_le (length bytes) (length out - at)) [
+  | yes k ↦ go (inl (omega (arith, min))) (omega (arith, min)) (omega (arith, min))
+  | no k ↦ go (inr (omega (arith, min))) (omega (arith, min)) (omega (arith, min))
+]
+  where
+    go : (n ≡ length bytes) ⊎ (length out ≤ at + n) → n ≤ length bytes → at + n ≤ length out → Copied bytes at out (at + n) after
+    go o i r =
+        let k : length (take n bytes) ≡ n = length-take-le n bytes i in
+        record {
+          place = rw (length-take (length out - at) bytes) (omega (arith, min));
+          buffer = rw drop-drop at a ∙ sym (append_assoc (take at out) (take n bytes) (drop (at + n) out)) ∙ sym (rw k at (sets-eq (take n bytes) out at (omega arith))) ∙ over_first bytes at n out o i;
+        }
 
 -- ---- Several parts
 

@@ -1,6 +1,6 @@
 -- Demands 1 and 3 for every call that answers for a block as its contract says, whatever the format: `b` is the block, or the refusal of one before
 -- the room; `r` is what the call answers, `after` the output after it.
-use Rattle.std.specs.Prelude.{◌≡◌, refl, ℕ, List, length}
+use Rattle.std.specs.Prelude.{◌≡◌, refl, ℕ, List, length, Ok, Err}
 use Rattle.std.proofs.Common.{sym, ap, ◌∙◌, arith, ⊎_elim}
 use Rattle.rules.specs.Doc.Outcomes.{Outcome, fine, refused}
 use Rattle.rules.specs.Doc.Answers.{Answer, answer_by}
@@ -9,10 +9,9 @@ use Rattle.rules.specs.Demands.One.{Longer, Written, length_said, refusal_said, 
 use Rattle.boxes.specs.Told.{number}
 use Rattle.boxes.specs.Unique.{not_done}
 use Rattle.boxes.specs.declared.refusal.Refusal.{Refusal}
-use Rattle.output.specs.Told.{told}
+use Rattle.output.specs.Told.{Extracted, told}
 use Rattle.output.specs.Unique.{output_told, told_one}
-use Rattle.output.specs.declared.Extracted.{Extracted}
-use Rattle.output.specs.declared.Extracted.TheVariants.{Done, NoRoom, Refused}
+use Rattle.output.specs.declared.NoBlock.TheVariants.{NoRoom, Refused}
 
 -- the block has n bytes
 pub record BlockOf (b : Outcome (List ℕ)) (n : ℕ) : Type 0 where
@@ -22,9 +21,9 @@ pub record BlockOf (b : Outcome (List ℕ)) (n : ℕ) : Type 0 where
 
 -- what an answer says: the block's length, with room or without, or the number by which the block is refused
 abbrev pub Says : Outcome (List ℕ) → Extracted → Type 0
-Says b (Done n) = BlockOf b n
-Says b (NoRoom n) = BlockOf b n
-Says b (Refused e) = b ≡ refused (number e)
+Says b (Ok n) = BlockOf b n
+Says b (Err (NoRoom n)) = BlockOf b n
+Says b (Err (Refused e)) = b ≡ refused (number e)
 
 module _ (img out : List ℕ) (b : Outcome (List ℕ)) (before : Early b) where
   -- No two outcomes, answer and output together, meet the contract.
@@ -36,7 +35,7 @@ module _ (img out : List ℕ) (b : Outcome (List ℕ)) (before : Early b) where
     sized : (r : Extracted) (ps : List ℕ) → told r after ≡ answer_by b img out → b ≡ fine ps → BlockOf b (told r after).length
     sized r ps meets e = record { positions = ps; is_block = e; size = ap (λ (a : Answer). a.length) meets ∙ length_said img out e }
 
-    refused_by : (e : Refusal) → told (Refused e) after ≡ answer_by b img out → (o : Outcome (List ℕ)) → b ≡ o → b ≡ refused (number e)
+    refused_by : (e : Refusal) → told (Err (Refused e)) after ≡ answer_by b img out → (o : Outcome (List ℕ)) → b ≡ o → b ≡ refused (number e)
     refused_by e meets (refused n) f =
         let z : number e ≡ n = ap (λ (a : Answer). a.number) meets ∙ refusal_said img out f in
         f ∙ ap refused (sym z)
@@ -53,9 +52,9 @@ module _ (img out : List ℕ) (b : Outcome (List ℕ)) (before : Early b) where
     -- Every image, with an output buffer of every length, gets an answer: the block's length, or one refusal by number. (That a call ends with one is
     -- the proof of the function itself; here is what the answer says of the image.)
     pub gets_answer : (r : Extracted) → told r after ≡ answer_by b img out → Says b r
-    gets_answer (Done n) meets = sized (Done n) _ meets (success_writes img out b before (sym (ap (λ (a : Answer). a.number) meets))).is_block
-    gets_answer (NoRoom n) meets = sized (NoRoom n) _ meets (room_only_then img out b before (sym (ap (λ (a : Answer). a.number) meets))).is_block
-    gets_answer (Refused e) meets = refused_by e meets b refl
+    gets_answer (Ok n) meets = sized (Ok n) _ meets (success_writes img out b before (sym (ap (λ (a : Answer). a.number) meets))).is_block
+    gets_answer (Err (NoRoom n)) meets = sized (Err (NoRoom n)) _ meets (room_only_then img out b before (sym (ap (λ (a : Answer). a.number) meets))).is_block
+    gets_answer (Err (Refused e)) meets = refused_by e meets b refl
 
   module _ (r : Extracted) (after : List ℕ) (meets : told r after ≡ answer_by b img out) where
     number_is : (told r after).number ≡ (answer_by b img out).number

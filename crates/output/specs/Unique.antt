@@ -1,5 +1,5 @@
 -- No two outcomes, answer and output together, meet a contract of this crate.
-use Rattle.std.specs.Prelude.{◌≡◌, refl, List, ℕ, ◌<◌, eqb, if◌then◌else◌}
+use Rattle.std.specs.Prelude.{◌≡◌, refl, List, ℕ, ◌<◌, eqb, if◌then◌else◌, Ok, Err}
 use Rattle.std.proofs.Common.{sym, ap, ◌∙◌, arith, ne_eqb}
 use Rattle.rules.specs.Doc.Outcomes.{fine}
 use Rattle.rules.specs.Doc.Answers.{Answer}
@@ -8,29 +8,28 @@ use Rattle.rules.specs.Laws.Numbered.{went}
 use Rattle.rules.specs.Laws.Room.{room_length}
 use Rattle.boxes.specs.Told.{number}
 use Rattle.boxes.specs.Unique.{as_refusal, refusal_back, not_done}
-use Rattle.output.specs.Told.{told}
+use Rattle.output.specs.Told.{Extracted, told}
 use Rattle.output.specs.Copied.{Copied}
-use Rattle.output.specs.declared.Extracted.{Extracted}
-use Rattle.output.specs.declared.Extracted.TheVariants.{Done, NoRoom, Refused}
+use Rattle.output.specs.declared.NoBlock.TheVariants.{NoRoom, Refused}
 
 -- ---- Answers
 
 as_extracted : Answer → Extracted
-as_extracted a = if eqb a.number 0 then Done a.length else if eqb a.number 28 then NoRoom a.length else Refused (as_refusal a.number)
+as_extracted a = if eqb a.number 0 then Ok a.length else if eqb a.number 28 then Err (NoRoom a.length) else Err (Refused (as_refusal a.number))
 
 -- `NoRoom` of length 0 would be told as the refusal 28 is; but 28 carries a length
 extracted_back : (x : Extracted) (out : List ℕ) → ((told x out).number ≡ 28 → 0 < (told x out).length) → as_extracted (told x out) ≡ x
 unfolding as_extracted
-extracted_back (Done n) out h = refl
-extracted_back (NoRoom n) out h = refl
-extracted_back (Refused e) out h =
+extracted_back (Ok n) out h = refl
+extracted_back (Err (NoRoom n)) out h = refl
+extracted_back (Err (Refused e)) out h =
     let room : number e ≡ 28 → ⊥ = λ k. let z = h k in omega arith in
-    rw (ne_eqb (number e) 0 (not_done e), ne_eqb (number e) 28 room) (ap Refused (refusal_back e))
+    rw (ne_eqb (number e) 0 (not_done e), ne_eqb (number e) 28 room) (ap (λ r. Err (Refused r)) (refusal_back e))
 
 pub output_told : (x : Extracted) (out : List ℕ) → (told x out).output ≡ out
-output_told (Done n) out = refl
-output_told (NoRoom n) out = refl
-output_told (Refused e) out = refl
+output_told (Ok n) out = refl
+output_told (Err (NoRoom n)) out = refl
+output_told (Err (Refused e)) out = refl
 
 -- an answer tells one outcome
 pub told_one : {a : Answer} → (a.number ≡ 28 → 0 < a.length) → (x y : Extracted) (after after' : List ℕ)

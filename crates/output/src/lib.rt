@@ -5,42 +5,51 @@ ghost use Rattle.std.specs.Prelude.{◌≡◌, drop};
 ghost use Rattle.rules.specs.Doc.Outcomes.{fine};
 ghost use Rattle.rules.specs.OverBytes.{answer_of};
 ghost use Rattle.output.specs.Told.{told};
+ghost use Rattle.output.specs.declared.NoBlock.TheVariants.{Refused};
 ghost use Rattle.output.specs.Copied.{Copied};
 
 use boxes::Refusal;
 
-// The block's length; the length that is needed, where there is no room; or why there is no block.
+// Why no block is handed out: there is no room for it, with the length that is needed, or it is refused before the room is asked.
 #[derive(Clone, Copy)]
-pub enum Extracted {
-    Done(usize),
+pub enum NoBlock {
     NoRoom(usize),
     Refused(Refusal),
 }
+
+// What is refused before is refused with the same number.
+impl From<Refusal> for NoBlock {
+    ghost from_gives = { λ e n. n ≡ Refused e };
+
+    fn from(e: Refusal) -> NoBlock {
+        NoBlock::Refused(e)
+    }
+}
+
+// The block's length, or why there is no block.
+pub type Extracted = Result<usize, NoBlock>;
 
 // Copies the bytes of `part` from `skip` on to `out` from `at` on, as many as there is room for, and answers the place after the last.
 pub fn put(part: &[u8], skip: usize, out: &mut [u8], at: usize) -> usize
     ensures { Copied (drop skip part.now) at out.old result out.new }
 {
-    let mut i = skip;
-    let mut o = at;
-    while i < part.len() {
-        if out.len() <= o {
-            return o;
-        }
-        out[o] = part[i];
-        i += 1;
-        o += 1;
+    if part.len() <= skip || out.len() <= at {
+        return at;
     }
-    o
+    let rest = &part[skip..];
+    let n = rest.len().min(out.len() - at);
+    out[at..at + n].copy_from_slice(&rest[..n]);
+    at + n
 }
 
 // The block goes to the front of `out`, if there is room for all of it.
+#[tactic(auto, using(crate::specs::Answers::answer_28))]
 pub fn hand_out(block: &[u8], out: &mut [u8]) -> Extracted
     ensures { told result out.new ≡ answer_of out.old (fine block.now) }
 {
     if out.len() < block.len() {
-        return Extracted::NoRoom(block.len());
+        return Err(NoBlock::NoRoom(block.len()));
     }
     put(block, 0, out, 0);
-    Extracted::Done(block.len())
+    Ok(block.len())
 }

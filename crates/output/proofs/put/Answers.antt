@@ -1,24 +1,21 @@
-use mathlib.Core.Path.{refl}
+-- The rest of the part is all from `skip` on, and as much of it as there is room for is laid over the output (`copied_room`).
+use mathlib.Core.Logic.{⊎_elim, inl, inr}
+use mathlib.Core.Path.{◌≡◌, refl}
+use Prim.Native.Nat.{◌+◌, ◌-◌}
+use lib.ListN.{length}
 use native.Mathlib.Omega.{arith}
-use lib.ListN.{length-set, drop_of_length-le}
-use Rattle.output.specs.Copied.{copied_none, copied_full, copied_more}
+use Rattle.std.proofs.lemmas.Slice.{between_to_end}
+use Rattle.output.specs.Copied.{copied_none, copied_room}
 use Rattle.output.proofs.put.Goals as goal
 
-pub loop-i-init : goal.loop-i-init
-loop-i-init c = (refl, λ end after k. k)
-
-pub returns-then-out-o : goal.returns-then-out-o
-returns-then-out-o c =
-    let l = c.loop-i in
-    l.invariant.1 l.o l.out (copied_full _ l.o l.out c.if-out-o.true)
-
-pub loop-i-preserved : goal.loop-i-preserved
-loop-i-preserved c =
-    let l = c.loop-i in
-    let s = c.args.part.now in
-    (simp length-set l.invariant.0, λ end after k. l.invariant.1 end after (copied_more s (omega arith) (omega arith) k))
+pub returns-then-part-skip : goal.returns-then-part-skip
+returns-then-part-skip c =
+    let a = c.args in
+    copied_none a.part.now a.skip a.at a.out.now (⊎_elim (λ h. inl h) (λ h. inr h.1) c.then-part-skip.either)
 
 pub returns : goal.returns
 returns c =
-    let l = c.loop-i in
-    l.invariant.1 l.o l.out (rw (drop_of_length-le c.args.part.now c.loop-i-test.false) (copied_none l.o l.out))
+    let a = c.args in
+    let rest = between_to_end a.part.now a.skip (length a.part.now) (omega arith) in
+    let n : a.at + c.min-n.result - a.at ≡ c.min-n.result = omega arith in
+    copied_room _ _ _ _ _ (rw rest at c.min-n.ensures) (omega arith) (rw (n, c.copy_from_slice.ensures.after, rest) refl)
