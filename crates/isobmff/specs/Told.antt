@@ -1,64 +1,58 @@
 -- What the answers say: document 01's number, or the values, of each case.
-use Rattle.std.specs.Prelude.{ℕ, Bool}
-use Rattle.std.proofs.Math.Option.{Option, none, some}
-use Rattle.rules.specs.Doc.Outcomes.{Outcome, fine, refused}
-use Rattle.rules.specs.Doc.Bytes.{Span}
+use Rattle.std.specs.Prelude.{ℕ, Bool, Result, Option}
+use Rattle.std.proofs.Math.Option as math
+use Rattle.rules.specs.Doc.Outcomes.{Outcome}
+use Rattle.rules.specs.Doc.Bytes as doc-bytes
 use Rattle.rules.specs.Doc.Children as doc
+use Rattle.rules.specs.Results.{outcome, perhaps}
 use Rattle.boxes.specs.Told.{number}
+use Rattle.boxes.specs.declared.refusal.Refusal.{Refusal}
 use Rattle.items.specs.Told.{id_of}
-use Rattle.items.specs.declared.ItemId.{ItemId}
-use Rattle.isobmff.specs.declared.top.Body.{Body}
-use Rattle.isobmff.specs.declared.top.Body.TheVariants as b
+use Rattle.isobmff.specs.declared.span.Span.{Span}
 use Rattle.isobmff.specs.declared.top.Next.{Next}
 use Rattle.isobmff.specs.declared.top.Next.TheVariants as n
-use Rattle.isobmff.specs.declared.top.Top.{Top}
-use Rattle.isobmff.specs.declared.top.Top.TheVariants as t
-use Rattle.isobmff.specs.declared.meta.LastBody.{LastBody}
-use Rattle.isobmff.specs.declared.meta.LastBody.TheVariants as l
 use Rattle.isobmff.specs.declared.meta.Met.{Met}
-use Rattle.isobmff.specs.declared.meta.Met.TheVariants as m
 use Rattle.isobmff.specs.declared.meta.Kept.{Kept}
-use Rattle.isobmff.specs.declared.meta.Kept.TheVariants as k
+
+abbrev pub place_of : Span → doc-bytes.Span
+place_of p = record { from = p.from; to = p.to }
 
 -- ---- The top level
 
 -- what a box leads to: on, with whether an `ftyp` was met, or to the body of `meta`
 pub data Lead : Type 0 where
   on : Bool → ℕ → Lead
-  found : Span → Lead
+  found : doc-bytes.Span → Lead
 
-abbrev pub body_of : Body → Outcome ℕ
-body_of (b.To to) = fine to
-body_of (b.Refused e) = refused (number e)
+abbrev pub lead_of : Next → Lead
+lead_of (n.On checked at) = on checked at
+lead_of (n.Meta body) = found (place_of body)
 
-abbrev pub next_of : Next → Outcome Lead
-next_of (n.On checked at) = fine (on checked at)
-next_of (n.Meta from to) = fine (found (record { from = from; to = to }))
-next_of (n.Refused e) = refused (number e)
+abbrev pub body_of : Result ℕ Refusal → Outcome ℕ
+body_of = outcome number (λ to. to)
 
-abbrev pub top_of : Top → Outcome Span
-top_of (t.Meta from to) = fine (record { from = from; to = to })
-top_of (t.Refused e) = refused (number e)
+abbrev pub next_of : Result Next Refusal → Outcome Lead
+next_of = outcome number lead_of
+
+abbrev pub top_of : Result Span Refusal → Outcome doc-bytes.Span
+top_of = outcome number place_of
 
 -- ---- The children of `meta`
 
 -- what the children so far leave
 pub record State : Type 0 where
-  pub wanted : Option ℕ
-  pub iloc : Option Span
-  pub idat : Option Span
+  pub wanted : math.Option ℕ
+  pub iloc : math.Option doc-bytes.Span
+  pub idat : math.Option doc-bytes.Span
 
-abbrev pub span_of : LastBody → Option Span
-span_of l.Unset = none
-span_of (l.At from to) = some (record { from = from; to = to })
+abbrev pub span_of : Option Span → math.Option doc-bytes.Span
+span_of = perhaps place_of
 
-abbrev pub state_of : ItemId → LastBody → LastBody → State
-state_of wanted iloc idat = record { wanted = id_of wanted; iloc = span_of iloc; idat = span_of idat }
+abbrev pub state_of : Met → State
+state_of m = record { wanted = id_of m.item_id; iloc = span_of m.iloc; idat = span_of m.idat }
 
-abbrev pub met_of : Met → Outcome State
-met_of (m.Read wanted iloc idat) = fine (state_of wanted iloc idat)
-met_of (m.Refused e) = refused (number e)
+abbrev pub met_of : Result Met Refusal → Outcome State
+met_of = outcome number state_of
 
-abbrev pub kept_of : Kept → Outcome doc.Kept
-kept_of (k.Found id from to idat) = fine (record { wanted = id; iloc = record { from = from; to = to }; idat = span_of idat })
-kept_of (k.Refused e) = refused (number e)
+abbrev pub kept_of : Result Kept Refusal → Outcome doc.Kept
+kept_of = outcome number (λ k. record { wanted = k.item_id; iloc = place_of k.iloc; idat = span_of k.idat })

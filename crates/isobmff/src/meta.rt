@@ -4,8 +4,8 @@ ghost use Rattle.rules.specs.Doc.Children.{kept};
 ghost use Rattle.isobmff.specs.Told.{state_of, met_of, kept_of};
 ghost use Rattle.isobmff.specs.Children.{children_over, afterwards};
 
-use boxes::{Child, Header, IINF, Number, Refusal};
-use items::{Ids, ItemId};
+use crate::span::Span;
+use boxes::{Child, Header, IINF, Refusal};
 
 const ILOC: u32 = 0x696c6f63;
 
@@ -14,108 +14,64 @@ const IDAT: u32 = 0x69646174;
 // Where the children begin: after the version.
 const CHILDREN: usize = 4;
 
-// Where the body of the last box of a type is, once one was met.
+// What all children leave: the wanted id, and where the body of the last `iloc` and of the last `idat` is, each once one was met.
 #[derive(Clone, Copy)]
-pub(crate) enum LastBody {
-    Unset,
-    At { from: usize, to: usize },
-}
-
-// What all children leave, or why one is refused.
-#[derive(Clone, Copy)]
-enum Met {
-    Read {
-        item_id: ItemId,
-        iloc: LastBody,
-        idat: LastBody,
-    },
-    Refused(Refusal),
+struct Met {
+    item_id: Option<u64>,
+    iloc: Option<Span>,
+    idat: Option<Span>,
 }
 
 // All children, in order. An `iinf` is read as it is met. `iloc` may stand before it: it is only kept here, and read when the wanted id is known.
-fn children(body: &[u8]) -> Met
+fn children(body: &[u8]) -> Result<Met, Refusal>
     ensures { met_of result ≡ children_over body.now }
 {
     let mut at = CHILDREN;
-    let mut item_id = ItemId::Unset;
-    let mut iloc = LastBody::Unset;
-    let mut idat = LastBody::Unset;
+    let mut item_id = None;
+    let mut iloc = None;
+    let mut idat = None;
     while at < body.len() {
-        match boxes::child_box(body, Header::read(body, at)) {
-            Child::Refused(e) => return Met::Refused(e),
-            Child::Whole { kind, from, to } => {
-                match kind {
-                    IINF => match items::parse_iinf(&body[from..to], item_id) {
-                        Ids::Refused(e) => return Met::Refused(e),
-                        Ids::Read(id) => {
-                            item_id = id;
-                        }
-                    },
-                    ILOC => {
-                        iloc = LastBody::At { from: from, to: to };
-                    }
-                    IDAT => {
-                        idat = LastBody::At { from: from, to: to };
-                    }
-                    _ => {}
-                }
-                at = to;
-            }
+        let Child { kind, from, to } = boxes::child_box(body, Header::read(body, at))?;
+        match kind {
+            IINF => item_id = items::parse_iinf(&body[from..to], item_id)?,
+            ILOC => iloc = Some(Span { from, to }),
+            IDAT => idat = Some(Span { from, to }),
+            _ => {}
         }
+        at = to;
     }
-    Met::Read {
-        item_id: item_id,
-        iloc: iloc,
-        idat: idat,
-    }
+    Ok(Met {
+        item_id,
+        iloc,
+        idat,
+    })
 }
 
-// What the children leave: the wanted id, where the last `iloc` is, and where the last `idat` is if there is one.
+// What is asked of them: the wanted id, where the last `iloc` is, and where the last `idat` is if there is one.
 #[derive(Clone, Copy)]
-pub(crate) enum Kept {
-    Found {
-        item_id: u64,
-        from: usize,
-        to: usize,
-        idat: LastBody,
-    },
-    Refused(Refusal),
+pub(crate) struct Kept {
+    pub item_id: u64,
+    pub iloc: Span,
+    pub idat: Option<Span>,
 }
 
 // After the children: no wanted id is asked first, then no `iloc`.
-fn after(item_id: ItemId, iloc: LastBody, idat: LastBody) -> Kept
-    ensures { kept_of result ≡ afterwards (state_of item_id iloc idat) }
+fn after(met: Met) -> Result<Kept, Refusal>
+    ensures { kept_of result ≡ afterwards (state_of met) }
 {
-    match item_id {
-        ItemId::Unset => Kept::Refused(Refusal::NotFound),
-        ItemId::Is(id) => match iloc {
-            LastBody::Unset => Kept::Refused(Refusal::NoIloc),
-            LastBody::At { from, to } => Kept::Found {
-                item_id: id,
-                from: from,
-                to: to,
-                idat: idat,
-            },
-        },
-    }
+    Ok(Kept {
+        item_id: met.item_id.ok_or(Refusal::NotFound)?,
+        iloc: met.iloc.ok_or(Refusal::NoIloc)?,
+        idat: met.idat,
+    })
 }
 
 // The version is judged before any child is looked at.
-pub(crate) fn parse_meta(body: &[u8]) -> Kept
+pub(crate) fn parse_meta(body: &[u8]) -> Result<Kept, Refusal>
     ensures { kept_of result ≡ kept body.now }
 {
-    match boxes::fullbox_header(body, 0) {
-        Number::Refused(e) => Kept::Refused(e),
-        Number::Got(version) => match version {
-            0 => match children(body) {
-                Met::Refused(e) => Kept::Refused(e),
-                Met::Read {
-                    item_id,
-                    iloc,
-                    idat,
-                } => after(item_id, iloc, idat),
-            },
-            _ => Kept::Refused(Refusal::MetaVersion),
-        },
+    match boxes::fullbox_header(body, 0)? {
+        0 => after(children(body)?),
+        _ => Err(Refusal::MetaVersion),
     }
 }
