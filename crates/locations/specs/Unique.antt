@@ -1,15 +1,12 @@
 -- No two answers meet a contract of this crate.
-use Rattle.std.specs.Prelude.{◌≡◌, refl, List, ◌∷◌, ℕ, ◌+◌, drop}
-use Rattle.std.proofs.Common.{ap}
-use Rattle.rules.specs.Doc.Outcomes.{Outcome, fine, refused}
+use Rattle.std.specs.Prelude.{◌≡◌, refl, List, ◌∷◌, ℕ, ◌+◌, drop, Result}
 use Rattle.rules.specs.Doc.Iloc as doc
 use Rattle.rules.specs.Laws.Back.{one}
-use Rattle.boxes.specs.Unique.{as_refusal, refusal_back}
-use Rattle.locations.specs.Told.{extent_in, extents_of, iloc_of}
+use Rattle.boxes.specs.Unique.{refusal_result_one}
+use Rattle.boxes.specs.declared.refusal.Refusal.{Refusal}
+use Rattle.locations.specs.Told.{extent_in, location_in, extents_of, iloc_of}
 use Rattle.locations.specs.declared.extent.Extent.{Extent}
 use Rattle.locations.specs.declared.Location.{Location}
-use Rattle.locations.specs.declared.Iloc.{Iloc}
-use Rattle.locations.specs.declared.Iloc.TheVariants.{Found, Refused}
 
 as_location : doc.Chosen → Location
 as_location c = record {
@@ -23,18 +20,14 @@ as_location c = record {
   };
 }
 
-as_iloc : Outcome doc.Chosen → Iloc
-as_iloc (fine c) = Found (as_location c)
-as_iloc (refused n) = Refused (as_refusal n)
-
-iloc_back : (x : Iloc) → as_iloc (iloc_of x) ≡ x
-unfolding as_iloc as_location
-iloc_back (Found l) = refl
-iloc_back (Refused e) = ap Refused (refusal_back e)
+location_back : (l : Location) → as_location (location_in l) ≡ l
+unfolding as_location
+location_back l = refl
 
 -- of `parse_iloc`
-pub iloc_one : (body : List ℕ) (wanted : ℕ) {x y : Iloc} → iloc_of x ≡ doc.chosen body wanted → iloc_of y ≡ doc.chosen body wanted → x ≡ y
-iloc_one body wanted e f = one iloc_of as_iloc iloc_back e f
+pub iloc_one : (body : List ℕ) (wanted : ℕ) {x y : Result Location Refusal}
+    → iloc_of x ≡ doc.chosen body wanted → iloc_of y ≡ doc.chosen body wanted → x ≡ y
+iloc_one body wanted e f = refusal_result_one location_in as_location location_back e f
 
 as_extent : doc.Extent → Extent
 as_extent x = record { offset = x.offset; length = x.length }

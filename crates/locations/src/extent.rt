@@ -1,12 +1,10 @@
 // The extents of an entry, which share their sizes.
 ghost use Rattle.std.specs.Prelude.{◌≡◌, ◌+◌, ◌≤◌, ◌<◌, length};
-ghost use Rattle.rules.specs.Doc.Bytes.{number_at};
 ghost use Rattle.rules.specs.Doc.Iloc.{extent_width, extent_at};
-ghost use Rattle.rules.specs.Laws.Fields.{Is048};
 ghost use Rattle.rules.specs.Laws.Extents.{Small, Judged, extent_here};
 ghost use Rattle.locations.specs.Told.{sizes_in, extent_in, read_of};
 
-use boxes::{Number, Refusal};
+use boxes::Refusal;
 
 // The sizes of an extent's three numbers.
 #[derive(Clone, Copy)]
@@ -23,35 +21,20 @@ pub struct Extent {
     pub length: u64,
 }
 
-#[derive(Clone, Copy)]
-pub(crate) enum Read {
-    Got(Extent),
-    Refused(Refusal),
-}
-
-pub(crate) fn parse_extent(body: &[u8], sizes: Sizes, at: usize) -> Read
+#[tactic(auto, unfolding(rules::specs::Doc::Iloc::extent_at), using(rules::specs::Laws::Fields::sized_stands))]
+pub(crate) fn parse_extent(body: &[u8], sizes: Sizes, at: usize) -> Result<Extent, Refusal>
     ensures { read_of result ≡ extent_at (sizes_in sizes) body.now at }
 {
-    match boxes::size048(body, at, sizes.index, Refusal::IndexSize) {
-        Number::Refused(e) => return Read::Refused(e),
-        Number::Got(_) => {}
-    }
+    boxes::size048(body, at, sizes.index, Refusal::IndexSize)?;
     let offset_at = at + sizes.index;
-    let offset = match boxes::size048(body, offset_at, sizes.offset, Refusal::OffsetSize) {
-        Number::Refused(e) => return Read::Refused(e),
-        Number::Got(v) => v,
-    };
+    let offset = boxes::size048(body, offset_at, sizes.offset, Refusal::OffsetSize)?;
     let length_at = offset_at + sizes.offset;
-    match boxes::size048(body, length_at, sizes.length, Refusal::LengthSize) {
-        Number::Refused(e) => Read::Refused(e),
-        Number::Got(length) => Read::Got(Extent {
-            offset: offset,
-            length: length,
-        }),
-    }
+    let length = boxes::size048(body, length_at, sizes.length, Refusal::LengthSize)?;
+    Ok(Extent { offset, length })
 }
 
 // The bytes of an extent: its three numbers.
+#[tactic(auto, unfolding(rules::specs::Doc::Iloc::extent_width))]
 pub(crate) fn extent_size(sizes: Sizes) -> usize
     requires { Small (sizes_in sizes) }
     ensures { (result ≡ extent_width (sizes_in sizes)) × (result < 48) }
@@ -59,19 +42,8 @@ pub(crate) fn extent_size(sizes: Sizes) -> usize
     sizes.index + sizes.offset + sizes.length
 }
 
-// A number of 0, 4 or 8 bytes, where it is known to be there.
-pub(crate) fn read_again(body: &[u8], at: usize, size: usize) -> u64
-    requires { Is048 size × (at + size ≤ length body.now) }
-    ensures { result ≡ number_at body.now at size }
-{
-    match size {
-        0 => 0,
-        4 => endian::loadu32(body, at) as u64,
-        _ => endian::loadu64(body, at),
-    }
-}
-
 // An extent, where it is known to be whole.
+#[tactic(auto, unfolding(rules::specs::Doc::Iloc::extent_width))]
 pub(crate) fn extent_here(body: &[u8], sizes: Sizes, at: usize) -> Extent
     requires { Judged (sizes_in sizes) × (at + extent_width (sizes_in sizes) ≤ length body.now) }
     ensures { extent_in result ≡ extent_here (sizes_in sizes) body.now at }
@@ -79,7 +51,7 @@ pub(crate) fn extent_here(body: &[u8], sizes: Sizes, at: usize) -> Extent
     let offset_at = at + sizes.index;
     let length_at = offset_at + sizes.offset;
     Extent {
-        offset: read_again(body, offset_at, sizes.offset),
-        length: read_again(body, length_at, sizes.length),
+        offset: endian::load_big(body, offset_at, sizes.offset),
+        length: endian::load_big(body, length_at, sizes.length),
     }
 }

@@ -14,9 +14,8 @@ ghost use Rattle.locations.specs.Told.{table_in, entry_in, last_in, extent_in, l
 
 use boxes::Refusal;
 pub use entry::Entry;
-use entry::{Parsed, Past};
 pub use extent::{Extent, Sizes};
-use table::{Head, Table};
+use table::Table;
 
 // Where an item is: its entry, and the sizes by which its extents are read again.
 #[derive(Clone, Copy)]
@@ -25,78 +24,37 @@ pub struct Location {
     pub entry: Entry,
 }
 
-#[derive(Clone, Copy)]
-pub enum Iloc {
-    Found(Location),
-    Refused(Refusal),
-}
-
-// The last wanted entry so far.
-#[derive(Clone, Copy)]
-enum Last {
-    Unset,
-    Wanted(Entry),
-}
-
-impl Last {
-    // An entry, if it is of the wanted item.
-    fn of(entry: Entry, item_id: u64) -> Last
-        ensures { last_in result ≡ if_wanted item_id (entry_in entry) }
-    {
-        if entry.item_id == item_id {
-            return Last::Wanted(entry);
-        }
-        Last::Unset
-    }
-
-    // This one, or else the other.
-    fn or(self, other: Last) -> Last
-        ensures { last_in result ≡ or_else (last_in self) (last_in other) }
-    {
-        match self {
-            Last::Unset => other,
-            Last::Wanted(entry) => Last::Wanted(entry),
-        }
-    }
-}
-
 // All entries are read, and the last wanted one is chosen.
-fn parse_entries(body: &[u8], table: Table, item_id: u64) -> Iloc
+#[tactic(auto, using(rules::specs::Laws::Entries::entry_refused, rules::specs::Laws::Entries::extents_refused, rules::specs::Laws::Entries::entry_in_is))]
+fn parse_entries(body: &[u8], table: Table, item_id: u64) -> Result<Location, Refusal>
     requires { Small (table_in table).sizes }
     ensures { iloc_of result ≡ chosen_in (table_in table) body.now item_id }
 {
-    let sizes = table.sizes;
     let mut at = table.items_at;
-    let mut last = Last::Unset;
+    let mut last = None;
     for _ in 0..table.item_count {
-        let entry = match entry::parse_entry(body, table, at) {
-            Parsed::Refused(e) => return Iloc::Refused(e),
-            Parsed::Read(x) => x,
-        };
-        match entry::past_extents(body, table, entry, item_id) {
-            Past::Refused(e) => return Iloc::Refused(e),
-            Past::To(next) => at = next,
+        let entry = entry::parse_entry(body, table, at)?;
+        at = entry::past_extents(body, table, entry, item_id)?;
+        if entry.item_id == item_id {
+            last = Some(entry);
         }
-        let wanted = Last::of(entry, item_id);
-        last = wanted.or(last);
     }
-    match last {
-        Last::Unset => Iloc::Refused(Refusal::NoMatchingEntry),
-        Last::Wanted(entry) => Iloc::Found(Location {
-            sizes: sizes,
-            entry: entry,
-        }),
-    }
+    let Some(entry) = last else {
+        return Err(Refusal::NoMatchingEntry);
+    };
+    Ok(Location {
+        sizes: table.sizes,
+        entry,
+    })
 }
 
 // The location of an item in the body of `iloc`.
-pub fn parse_iloc(body: &[u8], item_id: u64) -> Iloc
+#[tactic(auto, unfolding(rules::specs::Doc::Iloc::chosen), using(rules::specs::Laws::Entries::table_small))]
+pub fn parse_iloc(body: &[u8], item_id: u64) -> Result<Location, Refusal>
     ensures { iloc_of result ≡ chosen body.now item_id }
 {
-    match table::parse_head(body) {
-        Head::Refused(e) => Iloc::Refused(e),
-        Head::Read(table) => parse_entries(body, table, item_id),
-    }
+    let table = table::parse_head(body)?;
+    parse_entries(body, table, item_id)
 }
 
 // Extent `k` of an item that was located in this body, read again. The contract speaks of what is left, as a loop over the extents needs it:

@@ -7,7 +7,7 @@ ghost use Rattle.locations.specs.Told.{head_of};
 ghost use Rattle.locations.specs.Reads.{table_from};
 
 use crate::extent::Sizes;
-use boxes::{Number, Refusal};
+use boxes::Refusal;
 
 // How the entries are read, how many there are, and where the first one is.
 #[derive(Clone, Copy)]
@@ -17,12 +17,6 @@ pub(crate) struct Table {
     pub base_offset_size: usize,
     pub item_count: u64,
     pub items_at: usize,
-}
-
-#[derive(Clone, Copy)]
-pub(crate) enum Head {
-    Read(Table),
-    Refused(Refusal),
 }
 
 // The bytes of an id, and of the count of entries.
@@ -38,7 +32,7 @@ pub(crate) fn id_size(version: u64) -> usize
 
 // An id, or the count of entries.
 #[tactic(auto, unfolding(rules::specs::Doc::Iloc::id_size))]
-pub(crate) fn parse_id(body: &[u8], at: usize, version: u64) -> Number
+pub(crate) fn parse_id(body: &[u8], at: usize, version: u64) -> Result<u64, Refusal>
     ensures { field_of result ≡ field body.now at (id_size version) }
 {
     match version {
@@ -59,39 +53,32 @@ fn index_size(version: u64, halves: u64) -> usize
 }
 
 // The count of entries ends the head.
-fn parse_count(body: &[u8], version: u64, halves: u64) -> Head
+#[tactic(auto, unfolding(crate::specs::Reads::table_from, rules::specs::Doc::Iloc::base_size_of, rules::specs::Doc::Iloc::sizes_of))]
+fn parse_count(body: &[u8], version: u64, halves: u64) -> Result<Table, Refusal>
     ensures { head_of result ≡ table_from body.now version halves }
 {
-    match parse_id(body, 6, version) {
-        Number::Refused(e) => Head::Refused(e),
-        Number::Got(item_count) => Head::Read(Table {
-            version: version,
-            sizes: Sizes {
-                index: index_size(version, halves),
-                offset: (halves / 4096) as usize,
-                length: (halves / 256 % 16) as usize,
-            },
-            base_offset_size: (halves / 16 % 16) as usize,
-            item_count: item_count,
-            items_at: 6 + id_size(version),
-        }),
-    }
+    let item_count = parse_id(body, 6, version)?;
+    Ok(Table {
+        version,
+        sizes: Sizes {
+            index: index_size(version, halves),
+            offset: (halves / 4096) as usize,
+            length: (halves / 256 % 16) as usize,
+        },
+        base_offset_size: (halves / 16 % 16) as usize,
+        item_count,
+        items_at: 6 + id_size(version),
+    })
 }
 
-#[tactic(auto, using(crate::specs::Reads::version_refused, crate::specs::Reads::version_known))]
-pub(crate) fn parse_head(body: &[u8]) -> Head
+#[tactic(auto, unfolding(rules::specs::Doc::Iloc::table_of, crate::specs::Reads::table_from))]
+pub(crate) fn parse_head(body: &[u8]) -> Result<Table, Refusal>
     ensures { head_of result ≡ table_of body.now }
 {
-    let version = match boxes::fullbox_header(body, 0) {
-        Number::Refused(e) => return Head::Refused(e),
-        Number::Got(v) => v,
-    };
-    let halves = match boxes::uint16(body, 4) {
-        Number::Refused(e) => return Head::Refused(e),
-        Number::Got(v) => v,
-    };
+    let version = boxes::fullbox_header(body, 0)?;
+    let halves = boxes::uint16(body, 4)?;
     match version {
         0..=2 => parse_count(body, version, halves),
-        _ => Head::Refused(Refusal::IlocVersion),
+        _ => Err(Refusal::IlocVersion),
     }
 }

@@ -1,37 +1,26 @@
-use mathlib.Core.Path.{◌≡◌}
-use Prim.Native.Nat.{◌-◌}
-use native.Mathlib.Omega.{arith}
-use Rattle.rules.specs.Laws.Entries.{chosen_all, entries_end, entry_refused, extents_refused, entry_passed, entry_in_is}
+-- An entry that is wanted takes the place of the last one, another leaves it; the last one decides in the end.
+use Rattle.std.proofs.Math.Nat.{sub-zero}
+use Rattle.rules.specs.Laws.Entries.{chosen_all, entries_end}
+use Rattle.locations.specs.Reads.{last_taken, last_left}
 use Rattle.locations.proofs.parse_entries.Goals as goal
+use Rattle.locations.proofs.parse_entries.Goals.{then-entry-item_id, else-entry-item_id}
 
 pub loop-init : goal.loop-init
-loop-init c =
-    let n = c.args.table.item_count in
-    let z : n - 0 ≡ n = omega arith in
-    (omega arith, rw z (chosen_all _ _ _))
-
-pub returns-in-Refused : goal.returns-in-Refused
-returns-in-Refused c = let read = rw c.in-Refused.is at c.parse_entry.ensures in search entry_refused
-
-pub past_extents-requires : goal.past_extents-requires
-past_extents-requires c =
-    let read = rw c.in-Read.is at c.parse_entry.ensures in
-    (c.requires, entry_in_is _ _ _ c.type_inv.body read)
-
-pub returns-in-Refused-past_extents : goal.returns-in-Refused-past_extents
-returns-in-Refused-past_extents c =
-    let read = rw c.in-Read.is at c.parse_entry.ensures in
-    let past = rw c.in-Refused-past_extents.is at c.past_extents.ensures in
-    search extents_refused
+loop-init c = rw sub-zero (chosen_all _ _ _)
 
 pub loop-preserved : goal.loop-preserved
 loop-preserved c =
-    let read = rw c.in-Read.is at c.parse_entry.ensures in
-    let past = rw c.in-To.is at c.past_extents.ensures in
-    (omega arith, search entry_passed)
+    let inv = c.loop.invariant in
+    let more = c.loop-test.true in
+    let read = c.in_ok-entry.ensures in
+    let past = c.in_ok-at.ensures in
+    elim c.if-entry-item_id.branch [
+      | then-entry-item_id w ↦ rw w.last-is (last_taken _ _ _ _ _ _ _ inv more read past w.if-entry-item_id.true)
+      | else-entry-item_id w ↦ rw w.last-is (last_left _ _ _ _ _ _ _ inv more read past w.if-entry-item_id.false)
+    ]
 
-pub returns-in-Unset : goal.returns-in-Unset
-returns-in-Unset c = rw c.in-Unset.is at (entries_end _ _ _ _ _ _ _ c.loop.invariant.1 c.loop-test.false)
+pub returns-in_default : goal.returns-in_default
+returns-in_default c = rw c.in_default.is at (entries_end _ _ _ _ _ _ _ c.loop.invariant c.loop-test.false)
 
-pub returns-in-Wanted : goal.returns-in-Wanted
-returns-in-Wanted c = rw c.in-Wanted.is at (entries_end _ _ _ _ _ _ _ c.loop.invariant.1 c.loop-test.false)
+pub returns : goal.returns
+returns c = rw c.in-Some.is at (entries_end _ _ _ _ _ _ _ c.loop.invariant c.loop-test.false)
