@@ -7,7 +7,7 @@ use Rattle.items.proofs.entries.Given as goal
 
 abbrev pub invariant-loop : goal.invariant-loop
 invariant-loop l =
-    (l.counter ≤ l.entry_count) × (entries_over l.body (l.entry_count - l.counter) l.at (id_of l.item) ≡ entries_over l.body l.entry_count l.first (id_of l.initial.item))
+    (l.counter ≤ l.count) × (entries_over l.body (l.count - l.counter) l.at (id_of l.item) ≡ entries_over l.body l.count l.first (id_of l.initial.item))
 
 abbrev pub decreases-loop : goal.decreases-loop
-decreases-loop l = l.entry_count - l.counter
+decreases-loop l = l.count - l.counter
