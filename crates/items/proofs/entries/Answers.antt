@@ -1,5 +1,4 @@
 -- A box that was read is whole: so its body can be taken, and the boxes behind it leave what is still to come.
-use native.Mathlib.Omega.{arith}
 use Rattle.std.proofs.Common.{rules}
 use Rattle.boxes.specs.Loops.{box_refused, box_whole}
 use Rattle.items.specs.Wanted.{entries_cut, entries_refused, entries_exif, entries_same, entries_other}
@@ -27,11 +26,9 @@ returns-in_err-exif c =
 
 pub loop-preserved : goal.loop-preserved
 loop-preserved c =
-    let b = box_whole _ _ (c.read.ensures 3) (c.child_box.ensures _) c.in_ok-child.was in (
-      omega arith,
-      elim c.if-child-eq-INFE.branch [
-        | then-child-eq-INFE+in_ok-exif+in-Some w ↦ let f = rw w.in-Some.is at w.in_ok-exif.ensures in rw w.item-is (search entries_exif)
-        | then-child-eq-INFE+in_ok-exif+in_default w ↦ let f = rw w.in_default.is at w.in_ok-exif.ensures in rw w.item-is (search entries_same)
-        | else-child-eq-INFE w ↦ rw w.item-is (search entries_other)
-      ],
-    )
+    let b = box_whole _ _ (c.read.ensures 3) (c.child_box.ensures _) c.in_ok-child.was in
+    elim c.if-child-eq-INFE.branch [
+      | then-child-eq-INFE+in_ok-exif+in-Some w ↦ let f = rw w.in-Some.is at w.in_ok-exif.ensures in rw w.item-is (search entries_exif)
+      | then-child-eq-INFE+in_ok-exif+in_default w ↦ let f = rw w.in_default.is at w.in_ok-exif.ensures in rw w.item-is (search entries_same)
+      | else-child-eq-INFE w ↦ rw w.item-is (search entries_other)
+    ]
