@@ -18,11 +18,7 @@ use Rattle.rules.specs.Doc.Iinf.{Count, count_size, info_count, info_level, info
 use Rattle.rules.specs.Laws.Rows.{bind_assoc}
 use Rattle.rules.specs.Laws.Fold.{folded, leaves, read_next, counted_children_next, counted_children_done}
 use Rattle.rules.specs.Laws.Last.{or_else, keep, keep_last, feed, feed_each}
-use Rattle.boxes.specs.Told.{number, field_of}
 use Rattle.boxes.specs.Loops.{WholeBox}
-use Rattle.boxes.specs.declared.refusal.Refusal.{Refusal}
-use Rattle.boxes.specs.declared.field.Number.{Number}
-use Rattle.boxes.specs.declared.field.Number.TheVariants.{Got, Refused}
 
 -- ---- What the public contracts cite
 
@@ -55,37 +51,31 @@ iinf_folded body w = rw (last_wanted w (items body))
 -- ---- An `infe`, read after read
 
 -- behind the id, which ends at a position: two bytes, then four of type
-unfoldable pub behind_id : List ℕ → Outcome ℕ → ℕ → Option ℕ → Outcome (Option ℕ)
+unfoldable pub behind_id : List ℕ → ℕ → ℕ → Option ℕ → Outcome (Option ℕ)
 behind_id body id at w = (do
-  i ← id
   _ ← field body at 2
   k ← field body (at + 2) 4
-  fine (record { id = i; kind = k })) >>= λ i. fine (if is_exif i then some i.id else w)
+  fine (record { id = id; kind = k })) >>= λ i. fine (if is_exif i then some i.id else w)
 
 -- each read was refused, or gave a number
-module _ (body : List ℕ) (at : ℕ) (w : Option ℕ) {a : Number} where
-  pub id_refused : {e : Refusal} → a ≡ Refused e → refused (number e) ≡ behind_id body (field_of a) at w
+module _ (body : List ℕ) (id at : ℕ) (w : Option ℕ) where
+  pub two_refused : {n : ℕ} → refused n ≡ field body at 2 → refused n ≡ behind_id body id at w
   unfolding behind_id
-  id_refused ga = rw ga
+  two_refused e = rw (← e)
 
-  module _ {i : ℕ} (ga : a ≡ Got i) {b : Number} (eb : field_of b ≡ field body at 2) where
-    pub two_refused : {e : Refusal} → b ≡ Refused e → refused (number e) ≡ behind_id body (field_of a) at w
+  module _ {u : ℕ} (two : fine u ≡ field body at 2) where
+    pub type_refused : {n : ℕ} → refused n ≡ field body (at + 2) 4 → refused n ≡ behind_id body id at w
     unfolding behind_id
-    two_refused gb = rw (ga, ← eb, gb)
+    type_refused e = rw (← two, ← e)
 
-    module _ {u : ℕ} (gb : b ≡ Got u) {d : Number} (ed : field_of d ≡ field body (at + 2) 4) where
-      pub type_refused : {e : Refusal} → d ≡ Refused e → refused (number e) ≡ behind_id body (field_of a) at w
-      unfolding behind_id
-      type_refused gd = rw (ga, ← eb, gb, ← ed, gd)
+    module _ {k : ℕ} (e : fine k ≡ field body (at + 2) 4) where
+      pub type_exif : k ≡ Exif → fine (some id) ≡ behind_id body id at w
+      unfolding behind_id is_exif
+      type_exif h = rw (← two, ← e, h)
 
-      module _ {k : ℕ} (gd : d ≡ Got k) where
-        pub type_exif : k ≡ Exif → fine (some i) ≡ behind_id body (field_of a) at w
-        unfolding behind_id is_exif
-        type_exif h = rw (ga, ← eb, gb, ← ed, gd, h)
-
-        pub type_other : (k ≡ Exif → ⊥) → fine w ≡ behind_id body (field_of a) at w
-        unfolding behind_id is_exif
-        type_other h = rw (ga, ← eb, gb, ← ed, gd, ne_eqb k Exif h)
+      pub type_other : (k ≡ Exif → ⊥) → fine w ≡ behind_id body id at w
+      unfolding behind_id is_exif
+      type_other h = rw (← two, ← e, ne_eqb k Exif h)
 
 -- by the version
 module _ (body : List ℕ) (w : Option ℕ) where
@@ -93,18 +83,26 @@ module _ (body : List ℕ) (w : Option ℕ) where
   unfolding infe_over item
   infe_cut e = rw (← e)
 
-  pub infe_other : {v : ℕ} → fine v ≡ version body 0 → (v ≡ 2 → ⊥) → (v ≡ 3 → ⊥) → refused 9 ≡ infe_over body w
-  unfolding infe_over item item_id_size
-  infe_other {v} e p q = rw (← e, ne_eqb v 2 p, ne_eqb v 3 q)
+  module _ {v : ℕ} (e : fine v ≡ version body 0) where
+    pub infe_two_cut : {n : ℕ} → v ≡ 2 → refused n ≡ field body 4 2 → refused n ≡ infe_over body w
+    unfolding infe_over item item_id_size
+    infe_two_cut k f = rw (← e, k, ← f)
 
-  module _ {v : ℕ} {id : Outcome ℕ} {r : Outcome (Option ℕ)} (e : fine v ≡ version body 0) where
-    pub infe_two : v ≡ 2 → id ≡ field body 4 2 → r ≡ behind_id body id 6 w → r ≡ infe_over body w
+    pub infe_two : {i : ℕ} {r : Outcome (Option ℕ)} → v ≡ 2 → fine i ≡ field body 4 2 → r ≡ behind_id body i 6 w → r ≡ infe_over body w
     unfolding infe_over item item_id_size behind_id
     infe_two k f g = rw (← e, k, ← f) g
 
-    pub infe_three : v ≡ 3 → id ≡ field body 4 4 → r ≡ behind_id body id 8 w → r ≡ infe_over body w
+    pub infe_three_cut : {n : ℕ} → v ≡ 3 → refused n ≡ field body 4 4 → refused n ≡ infe_over body w
+    unfolding infe_over item item_id_size
+    infe_three_cut k f = rw (← e, k, ← f)
+
+    pub infe_three : {i : ℕ} {r : Outcome (Option ℕ)} → v ≡ 3 → fine i ≡ field body 4 4 → r ≡ behind_id body i 8 w → r ≡ infe_over body w
     unfolding infe_over item item_id_size behind_id
     infe_three k f g = rw (← e, k, ← f) g
+
+    pub infe_other : (v ≡ 2 → ⊥) → (v ≡ 3 → ⊥) → refused 9 ≡ infe_over body w
+    unfolding infe_over item item_id_size
+    infe_other p q = rw (← e, ne_eqb v 2 p, ne_eqb v 3 q)
 
 -- ---- An `iinf`, box by box
 
@@ -115,10 +113,6 @@ sees body = feed wants (is infe) (item_in body)
 -- that many boxes, from a position
 pub entries_over : List ℕ → ℕ → ℕ → Option ℕ → Outcome (Option ℕ)
 entries_over body n at w = leaves (sees body) w (counted_boxes info_level body n at)
-
--- the same, behind the count
-unfoldable pub count_over : List ℕ → Outcome ℕ → ℕ → Option ℕ → Outcome (Option ℕ)
-count_over body count at w = count >>= λ n. entries_over body n at w
 
 module _ (body : List ℕ) (w : Option ℕ) where
   -- a whole `iinf` is its boxes, one after another
@@ -141,25 +135,22 @@ module _ (body : List ℕ) (w : Option ℕ) where
   unfolding info_count
   iinf_cut e = rw (iinf_boxes, ← e)
 
-  -- a count of k bytes
-  iinf_count : (k : ℕ) {v : ℕ} → fine v ≡ version body 0 → count_size v ≡ k → count_over body (field body 4 k) (4 + k) w ≡ iinf_over body w
-  unfolding info_count count_over
-  iinf_count k e f = rw (iinf_boxes, ← e, f) (go (field body 4 k))
-    where
-      go : (o : Outcome ℕ)
-          → (o >>= λ n. entries_over body n (4 + k) w)
-          ≡ (◌>>=◌ {B = Count} o (λ n. fine (record { count = n; from = 4 + k })) >>= λ c. entries_over body c.count c.from w)
-      go (fine n) = refl
-      go (refused n) = refl
+  module _ {v : ℕ} (e : fine v ≡ version body 0) where
+    pub iinf_zero_cut : {n : ℕ} → v ≡ 0 → refused n ≡ field body 4 2 → refused n ≡ iinf_over body w
+    unfolding info_count count_size
+    iinf_zero_cut k f = rw (iinf_boxes, ← e, k, ← f)
 
-  module _ {v : ℕ} {count : Outcome ℕ} {r : Outcome (Option ℕ)} (e : fine v ≡ version body 0) where
-    pub iinf_zero : v ≡ 0 → count ≡ field body 4 2 → r ≡ count_over body count 6 w → r ≡ iinf_over body w
-    unfolding count_size
-    iinf_zero k f g = rw f at g ∙ iinf_count 2 e (rw k)
+    pub iinf_zero : {n : ℕ} {r : Outcome (Option ℕ)} → v ≡ 0 → fine n ≡ field body 4 2 → r ≡ entries_over body n 6 w → r ≡ iinf_over body w
+    unfolding info_count count_size
+    iinf_zero k f g = rw (iinf_boxes, ← e, k, ← f) g
 
-    pub iinf_other : (v ≡ 0 → ⊥) → count ≡ field body 4 4 → r ≡ count_over body count 8 w → r ≡ iinf_over body w
-    unfolding count_size
-    iinf_other k f g = rw f at g ∙ iinf_count 4 e (rw (ne_eqb v 0 k))
+    pub iinf_other_cut : {n : ℕ} → (v ≡ 0 → ⊥) → refused n ≡ field body 4 4 → refused n ≡ iinf_over body w
+    unfolding info_count count_size
+    iinf_other_cut k f = rw (iinf_boxes, ← e, ne_eqb v 0 k, ← f)
+
+    pub iinf_other : {n : ℕ} {r : Outcome (Option ℕ)} → (v ≡ 0 → ⊥) → fine n ≡ field body 4 4 → r ≡ entries_over body n 8 w → r ≡ iinf_over body w
+    unfolding info_count count_size
+    iinf_other k f g = rw (iinf_boxes, ← e, ne_eqb v 0 k, ← f) g
 
 -- asked with nothing wanted before it, an `infe` says what it changes
 infe_alone : (body : List ℕ) (w : Option ℕ) → infe_over body w ≡ (infe_over body none >>= λ x. fine (or_else x w))
@@ -214,11 +205,21 @@ module _ (body : List ℕ) (n i at : ℕ) (w : Option ℕ) {r : Outcome (Option 
     entries_cut e = rw (← e) at entries_next
 
     module _ {kind from to : ℕ} (b : WholeBox body at kind from to) where
-      pub entries_read : {o : Outcome (Option ℕ)} → kind ≡ infe → o ≡ infe_over (part body from (to - from)) none
-          → (o >>= λ x. entries_over body (n - (i + 1)) to (or_else x w)) ≡ r
-      entries_read {o} k f =
-          sym (bind_assoc o (λ x. fine (or_else x w)) (entries_over body (n - (i + 1)) to))
-          ∙ rw (← b.is, eq-eqb kind infe k, b.bytes, infe_alone _ w, ← f) at entries_next
+      module _ (k : kind ≡ infe) where
+        infe_next : {o : Outcome (Option ℕ)} → o ≡ infe_over (part body from (to - from)) none
+            → (o >>= λ x. entries_over body (n - (i + 1)) to (or_else x w)) ≡ r
+        infe_next {o} f =
+            sym (bind_assoc o (λ x. fine (or_else x w)) (entries_over body (n - (i + 1)) to))
+            ∙ rw (← b.is, eq-eqb kind infe k, b.bytes, infe_alone _ w, ← f) at entries_next
+
+        pub entries_refused : {m : ℕ} → refused m ≡ infe_over (part body from (to - from)) none → refused m ≡ r
+        entries_refused f = infe_next f
+
+        pub entries_exif : {id : ℕ} → fine (some id) ≡ infe_over (part body from (to - from)) none → entries_over body (n - (i + 1)) to (some id) ≡ r
+        entries_exif f = infe_next f
+
+        pub entries_same : fine none ≡ infe_over (part body from (to - from)) none → entries_over body (n - (i + 1)) to w ≡ r
+        entries_same f = infe_next f
 
       pub entries_other : (kind ≡ infe → ⊥) → entries_over body (n - (i + 1)) to w ≡ r
       entries_other k = rw (← b.is, ne_eqb kind infe k) at entries_next
