@@ -1,27 +1,30 @@
 -- What the answers say: document 01's number, or the values, of each case; and what the code's values stand for.
-use Rattle.std.specs.Prelude.{ℕ, List, length, eqb, if◌then◌else◌}
-use Rattle.rules.specs.Doc.Outcomes.{Outcome, fine, refused}
+use Rattle.std.specs.Prelude.{ℕ, List, length, eqb, if◌then◌else◌, Result, Option}
+use Rattle.std.proofs.Common.{Bor}
+use Rattle.std.proofs.Math.Option as math
+use Rattle.rules.specs.Doc.Outcomes.{Outcome}
 use Rattle.rules.specs.Doc.Bytes.{Span}
 use Rattle.rules.specs.Doc.Iloc.{Extent}
 use Rattle.rules.specs.Doc.Join.{lies}
 use Rattle.rules.specs.OverBytes.{part_of, gathered, block_from}
+use Rattle.rules.specs.Results.{outcome, perhaps}
 use Rattle.boxes.specs.Told.{number}
+use Rattle.boxes.specs.declared.refusal.Refusal.{Refusal}
 use Rattle.locations.specs.Told.{location_in, extents_of}
 use Rattle.locations.specs.declared.Location.{Location}
-use Rattle.join.specs.declared.place.Place.{Place}
-use Rattle.join.specs.declared.place.Place.TheVariants as p
-use Rattle.join.specs.declared.total.Total.{Total}
-use Rattle.join.specs.declared.total.Total.TheVariants as t
+use Rattle.join.specs.declared.place.Part.{Part}
 
 -- of where an extent lies
-abbrev pub place_of : Place → Outcome Span
-place_of (p.Part from to) = fine (record { from = from; to = to })
-place_of (p.Refused e) = refused (number e)
+abbrev pub place_of : Result Part Refusal → Outcome Span
+place_of = outcome number (λ p. record { from = p.from; to = p.to })
 
 -- of the total
-abbrev pub total_of : Total → Outcome ℕ
-total_of (t.Sum n) = fine n
-total_of (t.Refused e) = refused (number e)
+abbrev pub total_of : Result ℕ Refusal → Outcome ℕ
+total_of = outcome number (λ n. n)
+
+-- the bytes of an `idat`, if there is one
+abbrev pub store : Option (Bor (List ℕ)) → math.Option (List ℕ)
+store = perhaps (λ b. b.now)
 
 -- ---- Of a location whose method is 0 or 1
 

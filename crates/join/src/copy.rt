@@ -6,7 +6,6 @@ ghost use Rattle.rules.specs.Laws.Entries.{Chose};
 ghost use Rattle.locations.specs.Told.{location_in};
 ghost use Rattle.join.specs.Told.{joined_of};
 
-use crate::minus;
 use crate::place::extent_part;
 use locations::Location;
 use output::put;
@@ -27,7 +26,7 @@ pub(crate) fn gather<'a>(
     let method = location.entry.construction_method;
     let base = location.entry.base_offset;
     let mut left = skip;
-    let mut at: usize = 0;
+    let mut at = 0;
     for k in 0..location.entry.extent_count {
         if out.len() <= at {
             return;
@@ -35,7 +34,7 @@ pub(crate) fn gather<'a>(
         let x = locations::read_extent(iloc, location, k);
         let part = extent_part(image, idat, method, base, x);
         at = put(part, left, out, at);
-        left = minus(left, part.len());
+        left = left.saturating_sub(part.len());
     }
 }
 

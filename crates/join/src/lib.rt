@@ -6,13 +6,4 @@ mod copy;
 mod place;
 mod total;
 
-ghost use Rattle.std.specs.Prelude.{◌≡◌, ◌-◌};
-
 pub use block::extract_item;
-
-// a - b, or 0 where b is more.
-fn minus(a: usize, b: usize) -> usize
-    ensures { result ≡ a - b }
-{
-    if b <= a { a - b } else { 0 }
-}

@@ -6,72 +6,68 @@ ghost use Rattle.rules.specs.Laws.Places.{EndsIn};
 ghost use Rattle.locations.specs.Told.{extent_in};
 ghost use Rattle.join.specs.Told.{place_of, part_by};
 
-use crate::minus;
 use boxes::Refusal;
 use locations::Extent;
 
 // From `from` up to, not including, `to`. In the image a part may begin past the end; it is empty, with `to` below `from`.
 #[derive(Clone, Copy)]
-pub(crate) enum Place {
-    Part { from: usize, to: usize },
-    Refused(Refusal),
+pub(crate) struct Part {
+    pub from: usize,
+    pub to: usize,
 }
 
 // Method 0, in an image of `image_len` bytes.
-fn in_image(image_len: usize, base: u64, x: Extent) -> Place
+#[tactic(auto, using(rules::specs::Laws::Places::image_open, rules::specs::Laws::Places::image_2, rules::specs::Laws::Places::image_part))]
+fn in_image(image_len: usize, base: u64, x: Extent) -> Result<Part, Refusal>
     requires { base + x.offset < 2 ^ 64 }
     ensures { place_of result ≡ in_image image_len base (extent_in x) }
 {
     let from = (base + x.offset) as usize;
     let size = x.length as usize;
     if size == 0 {
-        return Place::Part {
-            from: from,
+        return Ok(Part {
+            from,
             to: image_len,
-        };
+        });
     }
-    if minus(image_len, from) < size {
-        return Place::Refused(Refusal::ImageEnds);
+    if image_len.saturating_sub(from) < size {
+        return Err(Refusal::ImageEnds);
     }
-    Place::Part {
-        from: from,
+    Ok(Part {
+        from,
         to: from + size,
-    }
+    })
 }
 
 // Method 1, in an `idat` body of `idat_len` bytes.
-fn in_idat(idat_len: usize, base: u64, x: Extent) -> Place
+#[tactic(auto, using(rules::specs::Laws::Places::idat_19, rules::specs::Laws::Places::idat_past, rules::specs::Laws::Places::idat_open, rules::specs::Laws::Places::idat_20, rules::specs::Laws::Places::idat_part))]
+fn in_idat(idat_len: usize, base: u64, x: Extent) -> Result<Part, Refusal>
     requires { base + x.offset < 2 ^ 64 }
     ensures { place_of result ≡ in_idat idat_len base (extent_in x) }
 {
     let offset = base + x.offset;
-    if u64::MAX - offset < x.length {
-        return Place::Refused(Refusal::InvalidLength);
-    }
-    let end = offset + x.length;
+    let end = offset.checked_add(x.length).ok_or(Refusal::InvalidLength)?;
     let from = offset as usize;
     let to = end as usize;
     if idat_len < from {
-        return Place::Refused(Refusal::OutOfIdat);
+        return Err(Refusal::OutOfIdat);
     }
     if x.length == 0 {
-        return Place::Part {
-            from: from,
-            to: idat_len,
-        };
+        return Ok(Part { from, to: idat_len });
     }
     if idat_len < to {
-        return Place::Refused(Refusal::OutOfIdat);
+        return Err(Refusal::OutOfIdat);
     }
-    Place::Part { from: from, to: to }
+    Ok(Part { from, to })
 }
 
 // Where an extent lies in the `len` bytes that the method, 0 or 1, names.
-pub(crate) fn extent_place(method: u64, len: usize, base: u64, x: Extent) -> Place
+#[tactic(auto, using(rules::specs::Laws::Places::place_18, rules::specs::Laws::Places::place_image, rules::specs::Laws::Places::place_idat))]
+pub(crate) fn extent_place(method: u64, len: usize, base: u64, x: Extent) -> Result<Part, Refusal>
     ensures { place_of result ≡ lies method len base (extent_in x) }
 {
     if u64::MAX - base < x.offset {
-        return Place::Refused(Refusal::InvalidOffset);
+        return Err(Refusal::InvalidOffset);
     }
     match method {
         0 => in_image(len, base, x),
@@ -80,22 +76,19 @@ pub(crate) fn extent_place(method: u64, len: usize, base: u64, x: Extent) -> Pla
 }
 
 // The bytes of a place in `s`. None of a refused one: `total_size` has refused it before, and the arm only spares a `requires`.
-fn part_at(s: &[u8], place: Place) -> &[u8]
+#[tactic(auto, unfolding(rules::specs::OverBytes::part_of))]
+fn part_at(s: &[u8], place: Result<Part, Refusal>) -> &[u8]
     requires { EndsIn (length s.now) (place_of place) }
     ensures { result.now ≡ part_of s.now (place_of place) }
 {
     match place {
-        Place::Refused(_) => &s[0..0],
-        Place::Part { from, to } => {
-            if to < from {
-                return &s[0..0];
-            }
-            &s[from..to]
-        }
+        Ok(Part { from, to }) if from <= to => &s[from..to],
+        _ => &s[..0],
     }
 }
 
 // An extent's bytes: a part of the image or of the `idat` body, as the method says, and never a copy. Nothing of one that is refused.
+#[tactic(auto, using(rules::specs::Laws::Places::lies_inside))]
 pub(crate) fn extent_part<'a>(
     image: &'a [u8],
     idat: &'a [u8],

@@ -5,55 +5,37 @@ ghost use Rattle.rules.specs.Laws.Entries.{Chose};
 ghost use Rattle.locations.specs.Told.{location_in, extents_of};
 ghost use Rattle.join.specs.Told.{place_of, total_of, lies_by};
 
-use crate::minus;
-use crate::place::{Place, extent_place};
+use crate::place::{Part, extent_place};
 use boxes::Refusal;
 use locations::Location;
 
-// The total of the extents so far, or what is refused first.
-#[derive(Clone, Copy)]
-pub(crate) enum Total {
-    Sum(usize),
-    Refused(Refusal),
-}
-
-impl Total {
-    const MAX_EXIF_SIZE: usize = 65535;
-}
+const MAX_EXIF_SIZE: usize = 65535;
 
 // The total with one more part.
-fn with_part(total: usize, place: Place) -> Total
+#[tactic(auto, unfolding(rules::specs::OverBytes::added), using(rules::specs::Laws::Totals::added_over, rules::specs::Laws::Totals::added_more))]
+fn with_part(total: usize, place: Result<Part, Refusal>) -> Result<usize, Refusal>
     requires { total ≤ 65535 }
     ensures { total_of result ≡ added total (place_of place) }
 {
-    match place {
-        Place::Refused(e) => Total::Refused(e),
-        Place::Part { from, to } => {
-            let size = minus(to, from);
-            if Total::MAX_EXIF_SIZE - total < size {
-                return Total::Refused(Refusal::TooLarge);
-            }
-            Total::Sum(total + size)
-        }
+    let Part { from, to } = place?;
+    let size = to.saturating_sub(from);
+    if MAX_EXIF_SIZE - total < size {
+        return Err(Refusal::TooLarge);
     }
+    Ok(total + size)
 }
 
 // The total of a location's extents in the `len` bytes that its method names.
-pub(crate) fn total_size(iloc: &[u8], location: Location, len: usize) -> Total
+pub(crate) fn total_size(iloc: &[u8], location: Location, len: usize) -> Result<usize, Refusal>
     requires { Chose iloc.now (location_in location) }
     ensures { total_of result ≡ total_from (lies_by location len) 0 (extents_of iloc.now location) }
 {
     let method = location.entry.construction_method;
     let base = location.entry.base_offset;
-    let mut total: usize = 0;
+    let mut total = 0;
     for k in 0..location.entry.extent_count {
         let x = locations::read_extent(iloc, location, k);
-        match with_part(total, extent_place(method, len, base, x)) {
-            Total::Refused(e) => return Total::Refused(e),
-            Total::Sum(t) => {
-                total = t;
-            }
-        }
+        total = with_part(total, extent_place(method, len, base, x))?;
     }
-    Total::Sum(total)
+    Ok(total)
 }

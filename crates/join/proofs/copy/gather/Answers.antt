@@ -20,7 +20,7 @@ loop-k-preserved c =
     let w = c.put-at in
     let l = c.loop-k in (
       w.auto.out ∙ l.invariant.0,
-      gather_next _ _ _ _ _ _ l.invariant.1 c.read_extent-x.ensures c.extent_part-part.ensures c.minus-left.ensures _ _ (copied_then w.ensures),
+      gather_next _ _ _ _ _ _ l.invariant.1 c.read_extent-x.ensures c.extent_part-part.ensures c.saturating_sub-left.ensures _ _ (copied_then w.ensures),
     )
 
 pub returns : goal.returns

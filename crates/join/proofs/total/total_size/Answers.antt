@@ -1,6 +1,7 @@
 use mathlib.Core.Path.{refl}
 use native.Mathlib.Omega.{arith}
 use Rattle.rules.specs.Laws.Totals.{added_below, total_done, total_stop, total_next}
+use Rattle.std.proofs.lemmas.Result.{err_from_is_err_and}
 use Rattle.join.specs.Answers.{extents_end}
 use Rattle.join.proofs.total.total_size.Goals as goal
 
@@ -13,14 +14,15 @@ read_extent-x-requires c = record { chose = c.requires; k_bound = c.loop-k-test.
 pub with_part-requires : goal.with_part-requires
 with_part-requires c = c.loop-k.invariant.1
 
-pub returns-in-Refused : goal.returns-in-Refused
-returns-in-Refused c =
-    let w = rw c.in-Refused.is at c.with_part.ensures in
-    total_stop _ _ c.loop-k.invariant.0 c.read_extent-x.ensures c.extent_place.ensures w
+pub returns-in_err-total : goal.returns-in_err-total
+returns-in_err-total c =
+    let p = err_from_is_err_and c.from_residual.result c.from_residual.ensures.1 in
+    let w = rw c.in_err-total.was at c.with_part.ensures in
+    rw (p.1, p.2) (total_stop _ _ c.loop-k.invariant.0 c.read_extent-x.ensures c.extent_place.ensures w)
 
 pub loop-k-preserved : goal.loop-k-preserved
 loop-k-preserved c =
-    let w = rw c.in-Sum.is at c.with_part.ensures in
+    let w = rw c.in_ok-total.was at c.with_part.ensures in
     (total_next _ _ c.loop-k.invariant.0 c.read_extent-x.ensures c.extent_place.ensures w, added_below _ _ w)
 
 pub returns : goal.returns
