@@ -7,10 +7,9 @@ use Rattle.rules.specs.Doc.Consulted.{consulted, Agree}
 use Rattle.rules.specs.Laws.Refusals.{block_early}
 use Rattle.rules.specs.Demands.One.{Longer, Written}
 use Rattle.rules.specs.Demands.Three.{quiet}
-use Rattle.output.specs.Told.{told}
+use Rattle.output.specs.Told.{Extracted, told}
 use Rattle.output.specs.Demands as every
 use Rattle.output.specs.Demands.{Says}
-use Rattle.output.specs.declared.Extracted.{Extracted}
 
 -- ---- Demand 1
 

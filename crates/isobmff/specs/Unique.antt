@@ -3,9 +3,8 @@ use Rattle.std.specs.Prelude.{◌≡◌, List, ℕ}
 use Rattle.rules.specs.Doc.Block.{block}
 use Rattle.rules.specs.Doc.Answers.{answer}
 use Rattle.rules.specs.Laws.Refusals.{block_early}
-use Rattle.output.specs.Told.{told}
+use Rattle.output.specs.Told.{Extracted, told}
 use Rattle.output.specs.Demands.{answer_one}
-use Rattle.output.specs.declared.Extracted.{Extracted}
 
 pub attr_one : (img out : List ℕ) (x y : Extracted) (after after' : List ℕ) → told x after ≡ answer img out → told y after' ≡ answer img out
     → (x ≡ y) × (after ≡ after')

@@ -1,15 +1,14 @@
 -- Document 01's useless versions, the four slips that it names, and two more faults are shut out: what a call that meets the contract of
 -- `get_exif_attr` gives for the images that show them.
-use Rattle.std.specs.Prelude.{◌≡◌, refl, ℕ, ◌+◌, List, [], ◌++◌, length, take}
+use Rattle.std.specs.Prelude.{◌≡◌, refl, ℕ, ◌+◌, List, [], ◌++◌, length, take, Ok, Err}
 use Rattle.std.proofs.Common.{sym, ap, ◌∙◌, arith}
 use Rattle.rules.specs.Doc.Bytes.{byte_at}
 use Rattle.rules.specs.Doc.Answers.{answer}
 use Rattle.rules.specs.Unfold.{document}
 use Rattle.rules.specs.Cases.{line, H, fresh}
 use Rattle.boxes.specs.declared.refusal.Refusal.TheVariants.{NotFound, NoMatchingEntry}
-use Rattle.output.specs.Told.{told}
-use Rattle.output.specs.declared.Extracted.{Extracted}
-use Rattle.output.specs.declared.Extracted.TheVariants.{Done, NoRoom, Refused}
+use Rattle.output.specs.Told.{Extracted, told}
+use Rattle.output.specs.declared.NoBlock.TheVariants.{NoRoom, Refused}
 use Rattle.isobmff.specs.Unique.{attr_one}
 
 -- every call with this image and this output answers x, and leaves `after` in the output
@@ -27,23 +26,23 @@ written = line 5 0x4d4d002a_09
 
 -- Refusing always, and a block that is made up. H's extent has length 0, so this shuts out a fault too that document 01 doesn't name: length zero
 -- taken for no bytes.
-pub h_is_done : Gives H fresh (Done 4) written
+pub h_is_done : Gives H fresh (Ok 4) written
 unfolding document H line fresh written
-h_is_done = gives H fresh (Done 4) written refl
+h_is_done = gives H fresh (Ok 4) written refl
 
 -- A needed length that is made up.
-pub h_needs_four : Gives H (take 3 fresh) (NoRoom 4) (take 3 fresh)
+pub h_needs_four : Gives H (take 3 fresh) (Err (NoRoom 4)) (take 3 fresh)
 unfolding document H line fresh
-h_needs_four = gives H (take 3 fresh) (NoRoom 4) (take 3 fresh) refl
+h_needs_four = gives H (take 3 fresh) (Err (NoRoom 4)) (take 3 fresh) refl
 
-pub empty_is_refused : Gives [] fresh (Refused NotFound) fresh
+pub empty_is_refused : Gives [] fresh (Err (Refused NotFound)) fresh
 unfolding document
-empty_is_refused = gives [] fresh (Refused NotFound) fresh refl
+empty_is_refused = gives [] fresh (Err (Refused NotFound)) fresh refl
 
 -- One answer for all.
 pub not_one_answer : (r : Extracted) (a b : List ℕ) → told r a ≡ answer H fresh → told r b ≡ answer [] fresh → ⊥
 not_one_answer r a b e f =
-    let z : (told (Refused NotFound) b).number ≡ (told (Done 4) b).number
+    let z : (told (Err (Refused NotFound)) b).number ≡ (told (Ok 4) b).number
     = ap (λ (x : Extracted). (told x b).number) (sym (empty_is_refused r b f).0 ∙ (h_is_done r a e).0) in
     omega arith
 
@@ -76,9 +75,9 @@ unfoldable pub two_extents : List ℕ
 two_extents = with_table (line 40 0x00000028_696c6f63_01000000_4400_0001_0001_0001_0000_0002_00000000_00000002_00000002_00000007)
 
 -- Copying the first extent and only pretending for later ones; and one of the slips, reading the four bytes from the first extent when it has two.
-pub both_extents_count : Gives two_extents fresh (Done 4) written
+pub both_extents_count : Gives two_extents fresh (Ok 4) written
 unfolding document two_extents with_table with_children line fresh written
-both_extents_count = gives two_extents fresh (Done 4) written refl
+both_extents_count = gives two_extents fresh (Ok 4) written refl
 
 -- ---- The other three slips
 
@@ -87,27 +86,27 @@ unfoldable pub other_sizes : List ℕ
 other_sizes = with_table (line 31 0x0000001f_696c6f63_01000000_3400_0001_0002_0001_0000_0001_00000000000000)
 
 -- Judging sizes of other items.
-pub other_sizes_unjudged : Gives other_sizes fresh (Refused NoMatchingEntry) fresh
+pub other_sizes_unjudged : Gives other_sizes fresh (Err (Refused NoMatchingEntry)) fresh
 unfolding document other_sizes with_table with_children line fresh
-other_sizes_unjudged = gives other_sizes fresh (Refused NoMatchingEntry) fresh refl
+other_sizes_unjudged = gives other_sizes fresh (Err (Refused NoMatchingEntry)) fresh refl
 
 -- an `mdat` of 20 bytes of which 10 are there
 unfoldable pub cut_mdat : List ℕ
 cut_mdat = line 10 0x00000014_6d646174_0000
 
 -- A cut `mdat` before any `meta` refused as 2.
-pub cut_mdat_skipped : Gives cut_mdat fresh (Refused NotFound) fresh
+pub cut_mdat_skipped : Gives cut_mdat fresh (Err (Refused NotFound)) fresh
 unfolding document cut_mdat line fresh
-cut_mdat_skipped = gives cut_mdat fresh (Refused NotFound) fresh refl
+cut_mdat_skipped = gives cut_mdat fresh (Err (Refused NotFound)) fresh refl
 
 -- H with `iloc` before `iinf`
 unfoldable pub iloc_first : List ℕ
 iloc_first = with_children (line 32 0x00000020_696c6f63_01000000_4400_0001_0001_0001_0000_0001_00000000_00000000 ++ infos ++ store)
 
 -- `iloc` read when met, before the wanted id is known.
-pub iloc_read_later : Gives iloc_first fresh (Done 4) written
+pub iloc_read_later : Gives iloc_first fresh (Ok 4) written
 unfolding document iloc_first with_children line fresh written
-iloc_read_later = gives iloc_first fresh (Done 4) written refl
+iloc_read_later = gives iloc_first fresh (Ok 4) written refl
 
 -- ---- A fault that document 01 doesn't name
 
@@ -116,6 +115,6 @@ unfoldable pub two_entries : List ℕ
 two_entries = with_table (line 48 0x00000030_696c6f63_01000000_4400_0002_0001_0001_0000_0001_00000000_00000001_0001_0001_0000_0001_00000000_00000000)
 
 -- Stopping at the first entry of the wanted id.
-pub last_entry_wins : Gives two_entries fresh (Done 4) written
+pub last_entry_wins : Gives two_entries fresh (Ok 4) written
 unfolding document two_entries with_table with_children line fresh written
-last_entry_wins = gives two_entries fresh (Done 4) written refl
+last_entry_wins = gives two_entries fresh (Ok 4) written refl
