@@ -48,6 +48,7 @@ pub fn parse_ftyp(body: &[u8]) -> Result<(), Refusal>
 }
 
 // By the first `ftyp` alone, with boxes as inside a box. The loops are two, with a label, as document 01 asks: the first matching brand ends both.
+#[tactic(auto, using(crate::specs::Brands::heif_start, crate::specs::Brands::heif_done))]
 pub fn is_heif(buf: &[u8]) -> bool
     ensures { result ≡ is_heif buf.now }
 {

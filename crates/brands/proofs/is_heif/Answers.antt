@@ -1,11 +1,9 @@
+-- A box that was read is whole: so its body can be taken. Each way on is a step of `heif_from` or of `known_in`.
 use native.Mathlib.Omega.{arith}
 use Rattle.std.proofs.Common.{◌∙◌}
 use Rattle.boxes.specs.Loops.{box_refused, box_whole}
-use Rattle.brands.specs.Brands.{heif_start, heif_done, heif_refused, heif_other, heif_small, heif_brands, known_none, known_first, known_other}
+use Rattle.brands.specs.Brands.{heif_refused, heif_other, heif_small, heif_brands, known_none, known_first, known_other}
 use Rattle.brands.proofs.is_heif.Goals as goal
-
-pub boxes-init : goal.boxes-init
-boxes-init c = heif_start _
 
 pub slice_bounds-get-count : goal.slice_bounds-get-count
 slice_bounds-get-count c = (box_whole _ _ (c.read.ensures 3) (c.child_box.ensures _) c.in-Ok.is).order
@@ -42,9 +40,6 @@ pub boxes-preserved : goal.boxes-preserved
 boxes-preserved c =
     let b = box_whole _ _ (c.read.ensures 3) (c.child_box.ensures _) c.in-Ok.is in
     search (heif_other, b)
-
-pub returns-then-buf-at : goal.returns-then-buf-at
-returns-then-buf-at c = search heif_done
 
 pub returns-in_default : goal.returns-in_default
 returns-in_default c =
