@@ -6,77 +6,71 @@ ghost use Rattle.rules.specs.Doc.Ftyp.{known, brand_test};
 ghost use Rattle.rules.specs.Doc.Heif.{is_heif};
 ghost use Rattle.brands.specs.Told.{ftyp_of};
 
-use boxes::{Child, FTYP, Header, Refusal};
+use boxes::{FTYP, Header, Refusal};
 
-// What the test of an `ftyp` says.
+// A brand, as the number of its four letters.
 #[derive(Clone, Copy)]
-pub enum Ftyp {
-    Known,
-    Refused(Refusal),
-}
+struct Brand(u32);
 
-impl Ftyp {
+impl Brand {
     const MIF1: u32 = 0x6d696631;
 
     const MSF1: u32 = 0x6d736631;
 
-    // Where the compatible brands begin: after the major brand and the minor version.
+    // Where the compatible brands begin in an `ftyp`: after the major brand and the minor version.
     const COMPATIBLE: usize = 8;
-}
 
-fn is_known(brand: u32) -> bool
-    ensures { result ≡ known brand }
-{
-    match brand {
-        Ftyp::MIF1 | Ftyp::MSF1 => true,
-        _ => false,
+    const SIZE: usize = 4;
+
+    // Whether it is one of the two.
+    fn is_known(self) -> bool
+        ensures { result ≡ known self.0 }
+    {
+        matches!(self.0, Brand::MIF1 | Brand::MSF1)
     }
 }
 
-pub fn parse_ftyp(body: &[u8]) -> Ftyp
+// An `ftyp`: one of its compatible brands must be known. Up to three bytes behind the last are ignored.
+pub fn parse_ftyp(body: &[u8]) -> Result<(), Refusal>
     ensures { ftyp_of result ≡ brand_test body.now }
 {
-    if body.len() < Ftyp::COMPATIBLE {
-        return Ftyp::Refused(Refusal::BoxTooSmall);
+    let Some(brands) = body.get(Brand::COMPATIBLE..) else {
+        return Err(Refusal::BoxTooSmall);
+    };
+    if brands
+        .chunks_exact(Brand::SIZE)
+        .any(|brand| Brand(endian::loadu32(brand, 0)).is_known())
+    {
+        Ok(())
+    } else {
+        Err(Refusal::NoKnownBrand)
     }
-    let mut at = Ftyp::COMPATIBLE;
-    while 4 <= body.len() - at {
-        if is_known(endian::loadu32(body, at)) {
-            return Ftyp::Known;
-        }
-        at += 4;
-    }
-    Ftyp::Refused(Refusal::NoKnownBrand)
 }
 
-// By the first `ftyp` alone, with boxes as inside a box. The first matching brand ends both walks.
+// By the first `ftyp` alone, with boxes as inside a box. The loops are two, with a label, as document 01 asks: the first matching brand ends both.
+#[tactic(auto, using(crate::specs::Brands::heif_start, crate::specs::Brands::heif_done))]
 pub fn is_heif(buf: &[u8]) -> bool
     ensures { result ≡ is_heif buf.now }
 {
-    let mut at: usize = 0;
+    let mut at = 0;
     'boxes: loop {
         if buf.len() <= at {
             break 'boxes false;
         }
-        match boxes::child_box(buf, Header::read(buf, at)) {
-            Child::Refused(_) => break 'boxes false,
-            Child::Whole { kind, from, to } => {
-                if kind == FTYP {
-                    let body = &buf[from..to];
-                    if body.len() < Ftyp::COMPATIBLE {
-                        break 'boxes false;
-                    }
-                    let mut i = Ftyp::COMPATIBLE;
-                    while 4 <= body.len() - i {
-                        if is_known(endian::loadu32(body, i)) {
-                            break 'boxes true;
-                        }
-                        i += 4;
-                    }
-                    break 'boxes false;
+        let Ok(child) = boxes::child_box(buf, Header::read(buf, at)) else {
+            break 'boxes false;
+        };
+        if child.kind == FTYP {
+            let Some(brands) = buf[child.from..child.to].get(Brand::COMPATIBLE..) else {
+                break 'boxes false;
+            };
+            for brand in brands.chunks_exact(Brand::SIZE) {
+                if Brand(endian::loadu32(brand, 0)).is_known() {
+                    break 'boxes true;
                 }
-                at = to;
             }
+            break 'boxes false;
         }
+        at = child.to;
     }
 }

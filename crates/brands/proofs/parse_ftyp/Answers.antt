@@ -1,20 +1,23 @@
-use mathlib.Core.Bool.{true, false}
-use mathlib.Core.Path.{refl}
+-- The chain goes through the brands in their order, and says whether one is known.
 use native.Mathlib.Omega.{arith}
-use Rattle.brands.specs.Brands.{ftyp_small, ftyp_brands, brand_none, brand_known, brand_other}
+use Rattle.std.proofs.Common.{rules}
+use borrow.Author.Tests.{tests}
+use Rattle.std.proofs.lemmas.Iterator.Search.{any_from_yields_List}
+use Rattle.rules.specs.Doc.Ftyp.{known}
+use Rattle.brands.specs.Brands.{brands_come, ftyp_small, ftyp_any}
 use Rattle.brands.proofs.parse_ftyp.Goals as goal
 
-pub returns-then-body-lt-COMPATIBLE : goal.returns-then-body-lt-COMPATIBLE
-returns-then-body-lt-COMPATIBLE c = search ftyp_small
+pub returns-in_default : goal.returns-in_default
+returns-in_default c = ftyp_small _ (omega (arith, c.in_default.ensures.lookup))
 
-pub loop-at-init : goal.loop-at-init
-loop-at-init c = (omega arith, refl)
+pub returns-then-any : goal.returns-then-any
+returns-then-any c =
+    let look = c.in-Some.ensures.lookup.0 in
+    let some = any_from_yields_List known _ _ c.any.result c.any.ensures.ran (brands_come c.chunks_exact.result c.chunks_exact.ensures.size) (λ x b q k. search (rules, tests)) in
+    rw c.if-any.true at (ftyp_any _ look.0 look.2 c.chunks_exact.ensures.rest some)
 
-pub returns-then-is_known : goal.returns-then-is_known
-returns-then-is_known c = ftyp_brands _ {yes = true} c.if-body-lt-COMPATIBLE.false (search brand_known)
-
-pub loop-at-preserved : goal.loop-at-preserved
-loop-at-preserved c = (omega arith, search brand_other)
-
-pub returns : goal.returns
-returns c = ftyp_brands _ {yes = false} c.if-body-lt-COMPATIBLE.false (search brand_none)
+pub returns-else-any : goal.returns-else-any
+returns-else-any c =
+    let look = c.in-Some.ensures.lookup.0 in
+    let some = any_from_yields_List known _ _ c.any.result c.any.ensures.ran (brands_come c.chunks_exact.result c.chunks_exact.ensures.size) (λ x b q k. search (rules, tests)) in
+    rw c.if-any.false at (ftyp_any _ look.0 look.2 c.chunks_exact.ensures.rest some)
