@@ -1,16 +1,48 @@
 -- What is known of a location that was found: its extents can be read again, as many as it says.
-use Rattle.std.specs.Prelude.{◌≡◌, List, ℕ, length, Result, Ok}
-use Rattle.std.proofs.Common.{sym, ap, ◌∙◌}
-use Rattle.rules.specs.Doc.Iloc.{chosen}
-use Rattle.rules.specs.Laws.Entries.{Chose, chose_length}
+use Rattle.std.specs.Prelude.{◌≡◌, List, ◌∷◌, ℕ, ◌+◌, ◌*◌, ◌≤◌, ◌<◌, length, drop, Result, Ok}
+use Rattle.std.proofs.Common.{sym, ap, ◌∙◌, arith}
+use Rattle.std.proofs.Math.Logic.{∥∥₁_elim}
+use Rattle.std.proofs.Props.{props}
+use Rattle.rules.specs.Doc.Outcomes.{fine}
+use Rattle.rules.specs.Doc.Iloc as doc
+use Rattle.rules.specs.Laws.Fields.{Is048}
+use Rattle.rules.specs.Laws.Extents.{extent_here}
+use Rattle.rules.specs.Laws.Entries.{Chose, chose_length, chose_kth}
 use Rattle.boxes.specs.declared.refusal.Refusal.{Refusal}
 use Rattle.locations.specs.Told.{location_in, extents_of, iloc_of}
-use Rattle.locations.specs.declared.Location.{Location}
+use Rattle.locations.specs.declared.location.Location.{Location}
 
 pub found_chose : (body : List ℕ) (wanted : ℕ) {r : Result Location Refusal} {l : Location}
-    → iloc_of r ≡ chosen body wanted → r ≡ Ok l → Chose body (location_in l)
+    → iloc_of r ≡ doc.chosen body wanted → r ≡ Ok l → Chose body (location_in l)
 found_chose body wanted e f = record { wanted = wanted; is = sym e ∙ ap iloc_of f }
 
-module _ (body : List ℕ) (l : Location) (h : Chose body (location_in l)) where
-  pub extents_count : length (extents_of body l) ≡ l.entry.extent_count
-  extents_count = chose_length body (location_in l) h
+-- what a head that was read, and then its entries, choose
+pub read_chose : (body : List ℕ) (wanted : ℕ) {t : doc.Table} {c : doc.Chosen}
+    → fine t ≡ doc.table_of body → fine c ≡ doc.chosen_in t body wanted → ∥ Chose body c ∥₁
+unfolding doc.chosen
+read_chose body wanted e f = ∣ record { wanted = wanted; is = rw (← e, ← f) } ∣₁
+
+-- a width of 0, 4 or 8 bytes
+at_most_8 : {w : ℕ} → Is048 w → w ≤ 8
+at_most_8 h = omega (arith, h)
+
+module _ (l : Location) where
+  abbrev z : doc.Sizes
+  z = (location_in l).sizes
+
+  abbrev at : ℕ → ℕ
+  at k = l.entry.extents_at + k * doc.extent_width z
+
+  pub extents_count : length (extents_of l) ≡ l.entry.extent_count
+  extents_count = ∥∥₁_elim l.chosen (Prim.hlevel props) (λ h. chose_length l.body.now (location_in l) h)
+
+  -- extent k is there whole, with widths that need no test
+  pub record Whole (k : ℕ) : Type 0 where
+    pub widths : (z.offset ≤ 8) × (z.length ≤ 8)
+    pub inside : at k + doc.extent_width z ≤ length l.body.now
+    pub here : drop k (extents_of l) ≡ extent_here z l.body.now (at k) ∷ drop (k + 1) (extents_of l)
+
+  pub whole : (k : ℕ) → k < l.entry.extent_count → Whole k
+  whole k h = ∥∥₁_elim {P = Whole k} l.chosen (Prim.hlevel props) (λ c.
+      let i = chose_kth l.body.now (location_in l) c k h in
+      record { widths = (at_most_8 i.sizes.offset, at_most_8 i.sizes.length); inside = i.inside; here = i.here })

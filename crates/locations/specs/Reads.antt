@@ -1,5 +1,6 @@
 -- What each function says, from what its reads say.
-use Rattle.std.specs.Prelude.{◌≡◌, Bool, List, ℕ, ◌+◌, ◌-◌, ◌*◌, ◌%◌, ◌^◌, ◌≤◌, ◌<◌, length, leb, eqb, if◌then◌else◌, Result, Ok, Err}
+use Rattle.std.specs.Prelude.{◌≡◌, Bool, List, ℕ, ◌+◌, ◌-◌, ◌*◌, ◌%◌, ◌^◌, ◌≤◌, ◌<◌, length, leb, eqb, if◌then◌else◌}
+use Rattle.std.specs.Prelude.{Result, Ok, Err}
 use Rattle.std.proofs.Math.Path.{refl}
 use Rattle.std.proofs.Common.{sym, ap, ◌∙◌, mul-le-mul, le_of_lt, arith}
 use Rattle.std.proofs.Math.Bool.{true, false}
@@ -11,6 +12,9 @@ use Rattle.rules.specs.Doc.Bytes.{field, sized, version}
 use Rattle.rules.specs.Doc.Iloc.{Sizes, Table, id_size, sizes_of, base_size_of, table_of, method_size, in_file, Entry, entry_at}
 use Rattle.rules.specs.Doc.Iloc.{Extent, extent_width, extent_at, extents, is_wanted, entry_end, extents_test, entry_next, Chosen}
 use Rattle.rules.specs.Doc.Walks.{outcome, run, bare}
+use Rattle.rules.specs.Laws.Rows.{bind_assoc}
+use Rattle.rules.specs.Laws.Endian.{Bytes}
+use Rattle.rules.specs.Laws.Numbers.{number_below}
 use Rattle.rules.specs.Laws.Fields.{field_stands, sized_stands}
 use Rattle.rules.specs.Laws.Extents.{first_decides}
 use Rattle.rules.specs.Laws.Entries.{chosen_from, entry_passed}
@@ -45,6 +49,10 @@ module _ (s : List ℕ) (at n : ℕ) {a : Result ℕ Refusal} {v : ℕ} where
 
   pub sized_inside : (k : ℕ) → field_of a ≡ sized s at n k → a ≡ Ok v → at + n ≤ length s
   sized_inside k ea ga = (sized_stands s at n k (sym (ap field_of ga) ∙ ea)).1.inside
+
+-- two bytes make a number of 16 bits
+pub halves_fit : (s : List ℕ) (at : ℕ) {v : ℕ} → Bytes s → fine v ≡ field s at 2 → v < 65536
+halves_fit s at {v} b e = omega (arith, (field_stands s at 2 e).is, number_below s at 2 b)
 
 -- of `parse_head`: the version, the half-bytes
 module _ (body : List ℕ) {a : Result ℕ Refusal} (ea : field_of a ≡ version body 0) where
@@ -163,18 +171,13 @@ module _ (t : Table) (body : List ℕ) (e : Entry) where
     module _ (same : e.id ≡ wanted) (more : e.count ≡ 0 → ⊥) where
       pub next_wanted : entry_next t body wanted e ≡ (extent_at t.sizes body e.from >>= λ x. skipped t body e)
       unfolding entry_next extents_test is_wanted extents skipped entry_end
-      next_wanted =
-          rw (eq-eqb e.id wanted same, first_decides t.sizes body e.count e.from more)
-          (go (extent_at t.sizes body e.from) (require (leb (e.from + e.count * extent_width t.sizes) (length body)) 3))
-        where
-          go : (o : Outcome Extent) (r : Outcome (Unit {0})) → ((o >>= λ x. r) >>= λ u. fine (e.from + e.count * extent_width t.sizes)) ≡ (o >>= λ x. r >>= λ u. fine (e.from + e.count * extent_width t.sizes))
-          go (fine x) r = refl
-          go (refused n) r = refl
+      next_wanted = rw (eq-eqb e.id wanted same, first_decides t.sizes body e.count e.from more) (bind_assoc (extent_at t.sizes body e.from) _ _)
 
       pub next_refused : {n : ℕ} → refused n ≡ extent_at t.sizes body e.from → refused n ≡ entry_next t body wanted e
       next_refused h = rw (next_wanted, ← h)
 
-      pub next_whole : {x : Extent} {o : Outcome ℕ} → fine x ≡ extent_at t.sizes body e.from → o ≡ skipped t body e → o ≡ entry_next t body wanted e
+      pub next_whole : {x : Extent} {o : Outcome ℕ} → fine x ≡ extent_at t.sizes body e.from
+          → o ≡ skipped t body e → o ≡ entry_next t body wanted e
       next_whole h k = rw (next_wanted, ← h) k
 
 -- ---- Entries one after another: a wanted one takes the place of the last one before it, another leaves it

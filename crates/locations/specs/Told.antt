@@ -6,33 +6,22 @@ use Rattle.rules.specs.Doc.Iloc as doc
 use Rattle.rules.specs.Results.{outcome, perhaps}
 use Rattle.boxes.specs.Told.{number}
 use Rattle.boxes.specs.declared.refusal.Refusal.{Refusal}
-use Rattle.locations.specs.declared.extent.Sizes.{Sizes}
+use Rattle.locations.specs.declared.sizes.Sizes.{Sizes}
+pub use Rattle.locations.specs.Parts.{sizes_in, entry_in, chosen_with}
 use Rattle.locations.specs.declared.extent.Extent.{Extent}
 use Rattle.locations.specs.declared.table.Table.{Table}
 use Rattle.locations.specs.declared.entry.Entry.{Entry}
-use Rattle.locations.specs.declared.Location.{Location}
-
-abbrev pub sizes_in : Sizes → doc.Sizes
-sizes_in z = record { index = z.index; offset = z.offset; length = z.length }
+use Rattle.locations.specs.declared.location.Location.{Location}
 
 abbrev pub extent_in : Extent → doc.Extent
 extent_in x = record { offset = x.offset; length = x.length }
 
-abbrev pub entry_in : Entry → doc.Entry
-entry_in e = record {
-  id = e.item_id;
-  method = e.construction_method;
-  base = e.base_offset;
-  count = e.extent_count;
-  from = e.extents_at;
-}
-
 abbrev pub location_in : Location → doc.Chosen
-location_in l = record { sizes = sizes_in l.sizes; entry = entry_in l.entry }
+location_in l = chosen_with l.sizes l.entry
 
 -- the extents of an item that was located
-abbrev pub extents_of : List ℕ → Location → List doc.Extent
-extents_of body l = (doc.extents (sizes_in l.sizes) body (entry_in l.entry)).list
+abbrev pub extents_of : Location → List doc.Extent
+extents_of l = (doc.extents (sizes_in l.sizes) l.body.now (entry_in l.entry)).list
 
 abbrev pub iloc_of : Result Location Refusal → Outcome doc.Chosen
 iloc_of = outcome number location_in
@@ -60,6 +49,10 @@ read_of = outcome number extent_in
 -- where an entry's extents end
 abbrev pub past_of : Result ℕ Refusal → Outcome ℕ
 past_of = outcome number (λ at. at)
+
+-- the chosen entry of a table with these sizes
+abbrev pub chosen_of : Sizes → Result Entry Refusal → Outcome doc.Chosen
+chosen_of z = outcome number (chosen_with z)
 
 -- the last wanted entry so far
 abbrev pub last_in : Option Entry → math.Option doc.Entry

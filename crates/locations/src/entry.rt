@@ -2,7 +2,6 @@
 ghost use Rattle.std.specs.Prelude.{◌≡◌, ◌≤◌, length};
 ghost use Rattle.rules.specs.Doc.Bytes.{field};
 ghost use Rattle.rules.specs.Doc.Iloc.{method_size, in_file, entry_at, entry_next};
-ghost use Rattle.rules.specs.Laws.Extents.{Small};
 ghost use Rattle.rules.specs.Laws.Entries.{EntryIn};
 ghost use Rattle.boxes.specs.Told.{field_of};
 ghost use Rattle.locations.specs.Told.{table_in, entry_in, parsed_of, past_of};
@@ -103,10 +102,10 @@ pub(crate) fn parse_entry(body: &[u8], table: Table, at: usize) -> Result<Entry,
 // Past an entry's extents, sizes unjudged: they need only fit.
 #[tactic(auto, unfolding(crate::specs::Reads::skipped, rules::specs::Doc::Iloc::entry_end), using(crate::specs::Reads::skip_room))]
 fn skip_extents(body: &[u8], table: Table, entry: Entry) -> Result<usize, Refusal>
-    requires { Small (table_in table).sizes × EntryIn body.now (entry_in entry) }
+    requires { EntryIn body.now (entry_in entry) }
     ensures { past_of result ≡ skipped (table_in table) body.now (entry_in entry) }
 {
-    let size = entry.extent_count as usize * extent::extent_size(table.sizes);
+    let size = entry.extent_count as usize * table.sizes.extent_size();
     if body.len() - entry.extents_at < size {
         return Err(Refusal::BoxTooSmall);
     }
@@ -121,7 +120,7 @@ pub(crate) fn past_extents(
     entry: Entry,
     item_id: u64,
 ) -> Result<usize, Refusal>
-    requires { Small (table_in table).sizes × EntryIn body.now (entry_in entry) }
+    requires { EntryIn body.now (entry_in entry) }
     ensures { past_of result ≡ entry_next (table_in table) body.now item_id (entry_in entry) }
 {
     if entry.item_id != item_id {

@@ -1,18 +1,11 @@
 // The extents of an entry, which share their sizes.
-ghost use Rattle.std.specs.Prelude.{◌≡◌, ◌+◌, ◌≤◌, ◌<◌, length};
+ghost use Rattle.std.specs.Prelude.{◌≡◌, ◌+◌, ◌≤◌, length};
 ghost use Rattle.rules.specs.Doc.Iloc.{extent_width, extent_at};
-ghost use Rattle.rules.specs.Laws.Extents.{Small, Judged, extent_here};
+ghost use Rattle.rules.specs.Laws.Extents.{extent_here};
 ghost use Rattle.locations.specs.Told.{sizes_in, extent_in, read_of};
 
+use crate::sizes::Sizes;
 use boxes::Refusal;
-
-// The sizes of an extent's three numbers.
-#[derive(Clone, Copy)]
-pub struct Sizes {
-    pub index: usize,
-    pub offset: usize,
-    pub length: usize,
-}
 
 // An extent. Its index is read and judged, but has no further use, so it isn't kept.
 #[derive(Clone, Copy)]
@@ -33,19 +26,10 @@ pub(crate) fn parse_extent(body: &[u8], sizes: Sizes, at: usize) -> Result<Exten
     Ok(Extent { offset, length })
 }
 
-// The bytes of an extent: its three numbers.
-#[tactic(auto, unfolding(rules::specs::Doc::Iloc::extent_width))]
-pub(crate) fn extent_size(sizes: Sizes) -> usize
-    requires { Small (sizes_in sizes) }
-    ensures { (result ≡ extent_width (sizes_in sizes)) × (result < 48) }
-{
-    sizes.index + sizes.offset + sizes.length
-}
-
 // An extent, where it is known to be whole.
 #[tactic(auto, unfolding(rules::specs::Doc::Iloc::extent_width))]
 pub(crate) fn extent_here(body: &[u8], sizes: Sizes, at: usize) -> Extent
-    requires { Judged (sizes_in sizes) × (at + extent_width (sizes_in sizes) ≤ length body.now) }
+    requires { (sizes.offset ≤ 8) × (sizes.length ≤ 8) × (at + extent_width (sizes_in sizes) ≤ length body.now) }
     ensures { extent_in result ≡ extent_here (sizes_in sizes) body.now at }
 {
     let offset_at = at + sizes.index;
