@@ -4,6 +4,7 @@ use Rattle.std.proofs.Math.Option as math
 use denote.Bor.{Bor}
 use Rattle.rules.specs.Doc.Outcomes.{Outcome}
 use Rattle.rules.specs.Results.{outcome, perhaps}
+use Rattle.rules.specs.Doc.Endian as rules
 use Rattle.endian.specs.Told.{endian_of}
 use Rattle.capture_rules.specs.Doc.Header as doc-header
 use Rattle.capture_rules.specs.Doc.Directory as doc-directory
@@ -33,6 +34,10 @@ directory_told d = record { from = d.from; count = d.count }
 
 abbrev pub directory_of : Result Directory Fault → Outcome doc-directory.Directory
 directory_of = outcome number directory_told
+
+-- what a definition says by a directory: by the order of its bytes, its block, and where its entries are
+abbrev pub by_directory : {A : Type 0} → (rules.Endian → List ℕ → doc-directory.Directory → A) → Directory → A
+by_directory say d = say (endian_of d.order) d.block.now (directory_told d)
 
 -- an entry, with its tag: an answer doesn't repeat that
 abbrev pub entry_of : ℕ → Entry → doc-directory.Entry

@@ -15,9 +15,8 @@ pub struct Directory<'a> {
 }
 
 impl<'a> Directory<'a> {
-    ghost use Rattle.endian.specs.Told.{endian_of};
     ghost use Rattle.capture_rules.specs.Doc.Directory.{find};
-    ghost use Rattle.tiff.specs.Told.{found_of, directory_told};
+    ghost use Rattle.tiff.specs.Told.{by_directory, found_of};
 
     // An entry has twelve bytes.
     pub(crate) const ENTRY: usize = 12;
@@ -25,7 +24,7 @@ impl<'a> Directory<'a> {
     // The first of its entries with a tag.
     #[tactic(auto, using(crate::specs::Entries::find_none, crate::specs::Entries::find_here, crate::specs::Entries::find_later))]
     pub fn find(self, tag: u16) -> Option<Entry>
-        ensures { found_of tag result ≡ find (endian_of self.entry.order) self.entry.block.now (directory_told self.entry) tag }
+        ensures { found_of tag result ≡ by_directory find self.entry tag }
     {
         for i in 0..self.count {
             let at = self.from + Self::ENTRY * i;
