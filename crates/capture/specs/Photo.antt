@@ -16,13 +16,10 @@ use Rattle.output.specs.declared.Extracted.{Extracted}
 use Rattle.output.specs.declared.Extracted.TheVariants.{Done, NoRoom, Refused}
 use Rattle.rules.specs.Demands.One.{length_said}
 use Rattle.jpeg_rules.specs.Doc.Either.{either_answer}
-use Rattle.reader.specs.Demands.{output_is, success_only_block}
+use Rattle.reader.specs.Demands.{success_only_block}
 use Rattle.capture_rules.specs.Doc.Capture.{Capture, capture, of_answer, photo}
 
 module _ (img out after : List ℕ) (r : Extracted) (meets : told r after ≡ either_answer img out) where
-  pub output_kept : after ≡ (either_answer img out).output
-  output_kept = output_is img out r after meets
-
   pub photo_refused : {e : Refusal} → r ≡ Refused e → refused (number e) ≡ photo img out
   unfolding photo of_answer
   photo_refused {e} f = rw (← meets, f, ne_eqb (number e) 0 (not_done e))

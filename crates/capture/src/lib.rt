@@ -1,112 +1,109 @@
-// When a picture was taken, and its exposure bias: from an Exif block, or from an image by way of its block. Each step has an enum of its own for its
-// answer, in the place of Rust's `Result`.
+// When a picture was taken, and its exposure bias: from an Exif block, or from an image by way of its block.
 #![tactic(auto)]
 
 mod bias;
 mod date;
-mod entry;
 mod pointer;
 
-ghost use Rattle.std.specs.Prelude.{◌≡◌, ◌+◌, ◌*◌, ◌≤◌, length};
+ghost use Rattle.std.specs.Prelude.{◌≡◌};
 ghost use Rattle.jpeg_rules.specs.Doc.Either.{either_answer};
 ghost use Rattle.capture_rules.specs.Doc.Capture.{in_order, capture_in, capture_from, capture, photo};
-ghost use Rattle.endian.specs.Told.{endian_of};
-ghost use Rattle.capture.specs.Told.{dated_of, biased_of, captured_of, photo_of};
+ghost use Rattle.tiff.specs.Told.{by_directory};
+ghost use Rattle.capture.specs.Told.{dated_of, biased_of, captured_of, number, photo_of};
+ghost use Rattle.capture.specs.declared.NotRead.TheVariants.{Unread};
 
-pub use bias::Bias;
-use bias::{Biased, bias_in};
+use bias::bias_in;
 use boxes::Refusal;
-use date::{Dated, date_in};
+use date::date_in;
 use dates::Time;
-use endian::Endian;
+use fraction::Fraction;
 use output::Extracted;
-use pointer::{Pointer, exif_at};
-use tiff::{Directory, Fault, Header};
+use pointer::exif_at;
+use tiff::{Directory, Fault};
 
+// The bias may be missing: that is no refusal.
 #[derive(Clone, Copy)]
 pub struct Capture {
     pub time: Time,
-    pub bias: Bias,
+    pub bias: Option<Fraction>,
 }
 
-// What was read of a block, or why it was refused.
+// Why nothing was read of an image: extraction handed out no block (28 too: the block is longer than the buffer), or the block was refused.
 #[derive(Clone, Copy)]
-pub enum Captured {
-    Read(Capture),
-    Refused(Fault),
-}
-
-// What was read; or why extraction handed out no block (28 too: the block is longer than the buffer); or why the block was refused.
-#[derive(Clone, Copy)]
-pub enum Photo {
-    Read(Capture),
+pub enum NotRead {
     NoBlock(Refusal),
     Unread(Fault),
 }
 
-// The date comes before the bias: where both are refused, the answer is the date's.
-fn in_order(dated: Dated, biased: Biased) -> Captured
-    ensures { captured_of result ≡ in_order (dated_of dated) (biased_of biased) }
-{
-    match dated {
-        Dated::Refused(e) => Captured::Refused(e),
-        Dated::Taken(time) => match biased {
-            Biased::Refused(e) => Captured::Refused(e),
-            Biased::Read(bias) => Captured::Read(Capture {
-                time: time,
-                bias: bias,
-            }),
-        },
+impl NotRead {
+    pub fn number(self) -> u8
+        ensures { result ≡ number self }
+    {
+        match self {
+            NotRead::NoBlock(e) => e.number(),
+            NotRead::Unread(e) => e.number(),
+        }
     }
 }
 
-// From the Exif directory, whose entries lie inside.
-fn capture_in(order: Endian, block: &[u8], from: usize, count: usize) -> Captured
-    requires { from + 12 * count ≤ length block.now }
-    ensures { captured_of result ≡ capture_in (endian_of order) block.now (record { from = from; count = count }) }
+impl From<Fault> for NotRead {
+    ghost from_gives = { λ e r. r ≡ Unread e };
+
+    fn from(e: Fault) -> NotRead {
+        NotRead::Unread(e)
+    }
+}
+
+// The date comes before the bias: where both are refused, the answer is the date's.
+#[tactic(auto, unfolding(capture_rules::specs::Doc::Capture::in_order))]
+fn in_order(
+    dated: Result<Time, Fault>,
+    biased: Result<Option<Fraction>, Fault>,
+) -> Result<Capture, Fault>
+    ensures { captured_of result ≡ in_order (dated_of dated) (biased_of biased) }
 {
-    let dated = date_in(order, block, from, count);
-    let biased = bias_in(order, block, from, count);
-    in_order(dated, biased)
+    let time = dated?;
+    let bias = biased?;
+    Ok(Capture { time, bias })
+}
+
+// From the Exif directory.
+#[tactic(auto, unfolding(capture_rules::specs::Doc::Capture::capture_in))]
+fn capture_in(exif: Directory<'_>) -> Result<Capture, Fault>
+    ensures { captured_of result ≡ by_directory capture_in exif.entry }
+{
+    in_order(date_in(exif), bias_in(exif))
 }
 
 // From the first directory, which points to the Exif directory.
-fn from_directory(order: Endian, block: &[u8], from: usize, count: usize) -> Captured
-    requires { from + 12 * count ≤ length block.now }
-    ensures { captured_of result ≡ capture_from (endian_of order) block.now (record { from = from; count = count }) }
+#[tactic(auto, unfolding(capture_rules::specs::Doc::Capture::capture_from))]
+fn from_directory(first: Directory<'_>) -> Result<Capture, Fault>
+    ensures { captured_of result ≡ by_directory capture_from first.entry }
 {
-    match exif_at(order, block, from, count) {
-        Pointer::Refused(e) => Captured::Refused(e),
-        Pointer::To(at) => match tiff::read_directory(order, block, at) {
-            Directory::Refused(e) => Captured::Refused(e),
-            Directory::Entries { from, count } => capture_in(order, block, from, count),
-        },
-    }
+    let at = exif_at(first)?;
+    let exif = tiff::read_directory(first.order, first.block, at)?;
+    capture_in(exif)
 }
 
-pub fn from_block(block: &[u8]) -> Captured
+#[tactic(auto, unfolding(capture_rules::specs::Doc::Capture::capture))]
+pub fn from_block(block: &[u8]) -> Result<Capture, Fault>
     ensures { captured_of result ≡ capture block.now }
 {
-    match tiff::read_header(block) {
-        Header::Refused(e) => Captured::Refused(e),
-        Header::Read { order, first } => match tiff::read_directory(order, block, first) {
-            Directory::Refused(e) => Captured::Refused(e),
-            Directory::Entries { from, count } => from_directory(order, block, from, count),
-        },
-    }
+    let header = tiff::read_header(block)?;
+    let first = tiff::read_directory(header.order, block, header.first)?;
+    from_directory(first)
 }
 
 // Extracts the block into `out` first, and then reads it there. After any answer `out` is what extraction left.
-pub fn from_image(image: &[u8], out: &mut [u8]) -> Photo
+#[tactic(auto, using(crate::specs::Photo::photo_refused, crate::specs::Photo::photo_no_room, crate::specs::Photo::block_inside, crate::specs::Photo::photo_read, rules::specs::Laws::Numbers::first_part))]
+pub fn from_image(image: &[u8], out: &mut [u8]) -> Result<Capture, NotRead>
     ensures result_value { photo_of result ≡ photo image.now out.old }
     ensures out_after { out.new ≡ (either_answer image.now out.old).output }
 {
-    match reader::get_exif_attr(image, out) {
-        Extracted::Refused(e) => Photo::NoBlock(e),
-        Extracted::NoRoom(_) => Photo::NoBlock(Refusal::NoRoom),
-        Extracted::Done(n) => match from_block(&out[..n]) {
-            Captured::Read(capture) => Photo::Read(capture),
-            Captured::Refused(e) => Photo::Unread(e),
-        },
-    }
+    let n = match reader::get_exif_attr(image, out) {
+        Extracted::Done(n) => n,
+        Extracted::NoRoom(_) => return Err(NotRead::NoBlock(Refusal::NoRoom)),
+        Extracted::Refused(e) => return Err(NotRead::NoBlock(e)),
+    };
+    Ok(from_block(&out[..n])?)
 }

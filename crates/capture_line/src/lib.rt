@@ -16,7 +16,7 @@ ghost use Rattle.capture.specs.Told.{capture_of, photo_of};
 ghost use Rattle.capture_line.specs.Printable.{PrintableLine};
 
 use bias::put_bias;
-use capture::{Capture, Photo};
+use capture::{Capture, NotRead};
 use std::io::Write;
 use streams::write_all;
 use time::put_time;
@@ -25,6 +25,7 @@ use time::put_time;
 pub const LONGEST_LINE: usize = 62;
 
 // From 0 on: every line stands at the front of the buffer.
+#[tactic(auto, using(capture_rules::specs::Laws::LineText::time_length))]
 fn put_capture(capture: Capture, out: &mut [u8]) -> usize
     requires { PrintableLine (fine (capture_of capture)) }
     ensures { Wrote (line_text (fine (capture_of capture))) 0 out.old result out.new }
@@ -32,11 +33,11 @@ fn put_capture(capture: Capture, out: &mut [u8]) -> usize
     let at = text::put(b"answer=0 date=", out, 0);
     let at = put_time(capture.time, out, at);
     let at = text::put(b" bias=", out, at);
-    let bias = capture.bias;
-    let at = put_bias(bias, out, at);
+    let at = put_bias(capture.bias, out, at);
     text::put(b"\n", out, at)
 }
 
+#[tactic(auto, using(rules::specs::Laws::Text::five_digits))]
 fn put_refusal(number: u8, out: &mut [u8]) -> usize
     ensures { Wrote (line_text (refused number)) 0 out.old result out.new }
 {
@@ -45,26 +46,25 @@ fn put_refusal(number: u8, out: &mut [u8]) -> usize
     text::put(b"\n", out, at)
 }
 
-fn put_photo(photo: Photo, out: &mut [u8]) -> usize
+fn put_photo(photo: Result<Capture, NotRead>, out: &mut [u8]) -> usize
     requires { PrintableLine (photo_of photo) }
     ensures { Wrote (line_text (photo_of photo)) 0 out.old result out.new }
 {
     match photo {
-        Photo::Read(capture) => put_capture(capture, out),
-        Photo::NoBlock(e) => put_refusal(e.number(), out),
-        Photo::Unread(e) => put_refusal(e.number(), out),
+        Ok(capture) => put_capture(capture, out),
+        Err(e) => put_refusal(e.number(), out),
     }
 }
 
 // Extracts the block of `image` into `block`, reads it there, and puts the line at the front of `out`, as much of it as there is room for. The answer
 // is the length of all of it.
+#[tactic(auto, using(crate::specs::Printable::photo_printable))]
 pub fn photo_line(image: &[u8], block: &mut [u8], out: &mut [u8]) -> usize
     ensures value { result ≡ length (line_text (photo image.now block.old)) }
     ensures out_after { out.new ≡ printed (line_text (photo image.now block.old)) out.old }
     ensures block_after { block.new ≡ (either_answer image.now block.old).output }
 {
-    let photo = capture::from_image(image, block);
-    put_photo(photo, out)
+    put_photo(capture::from_image(image, block), out)
 }
 
 // The same with a buffer that is long enough for every line: nothing is ever cut.

@@ -8,6 +8,7 @@ ghost use Rattle.capture_line.specs.Printable.{Printable};
 use dates::Time;
 
 // The two digits of a number below 100.
+#[tactic(auto, using(capture_rules::specs::Laws::LineText::two_below))]
 fn put_two(n: u8, out: &mut [u8], at: usize) -> usize
     requires { (n < 100) × (at + 2 < 2 ^ 64) }
     ensures { Wrote (two n) at out.old result out.new }
@@ -16,6 +17,7 @@ fn put_two(n: u8, out: &mut [u8], at: usize) -> usize
 }
 
 // Three numbers below 100, with a colon between them.
+#[tactic(auto, unfolding(capture_rules::specs::Doc::Line::two), using(text::specs::Wrote::wrote_then))]
 fn put_three(a: u8, b: u8, c: u8, out: &mut [u8], at: usize) -> usize
     requires { (a < 100) × (b < 100) × (c < 100) × (at + 8 < 2 ^ 64) }
     ensures { Wrote (three (two a) (two b) (two c)) at out.old result out.new }
@@ -28,6 +30,7 @@ fn put_three(a: u8, b: u8, c: u8, out: &mut [u8], at: usize) -> usize
 }
 
 // The first two digits of the year, and then twice three numbers of two digits: the rest of the date, and the time of day.
+#[tactic(auto, unfolding(capture_rules::specs::Doc::Line::two, capture_rules::specs::Doc::Line::time_text), using(text::specs::Wrote::wrote_then))]
 pub(crate) fn put_time(time: Time, out: &mut [u8], at: usize) -> usize
     requires { Printable (time_of time) × (at + 19 < 2 ^ 64) }
     ensures { Wrote (time_text (time_of time)) at out.old result out.new }

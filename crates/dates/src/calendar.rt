@@ -3,14 +3,16 @@ ghost use Rattle.std.specs.Prelude.{◌≡◌};
 ghost use Rattle.capture_rules.specs.Doc.Time.{leap, days_in, is_date, is_clock};
 ghost use Rattle.dates.specs.Told.{time_of};
 
-use crate::{Time, between};
+use crate::Time;
 
+#[tactic(auto, unfolding(capture_rules::specs::Doc::Time::leap))]
 fn leap(year: u16) -> bool
     ensures { result ≡ leap year }
 {
     year % 4 == 0 && (year % 100 != 0 || year % 400 == 0)
 }
 
+#[tactic(auto, unfolding(capture_rules::specs::Doc::Time::days_in, rules::specs::Doc::Lists::any))]
 fn days_in(year: u16, month: u8) -> u8
     ensures { result ≡ days_in year month }
 {
@@ -21,13 +23,15 @@ fn days_in(year: u16, month: u8) -> u8
     }
 }
 
+#[tactic(auto, unfolding(capture_rules::specs::Doc::Time::is_date))]
 pub(crate) fn is_date(t: Time) -> bool
     ensures { result ≡ is_date (time_of t) }
 {
-    1 <= t.year && between(1, 12, t.month) && between(1, days_in(t.year, t.month), t.day)
+    1 <= t.year && (1..=12).contains(&t.month) && (1..=days_in(t.year, t.month)).contains(&t.day)
 }
 
 // There is no second 60.
+#[tactic(auto, unfolding(capture_rules::specs::Doc::Time::is_clock))]
 pub(crate) fn is_clock(t: Time) -> bool
     ensures { result ≡ is_clock (time_of t) }
 {

@@ -2,7 +2,7 @@
 #![tactic(auto)]
 
 ghost use Rattle.std.specs.Prelude.{true, ◌≡◌};
-ghost use Rattle.capture_rules.specs.Doc.Time.{between, pattern, alike, time_in, time};
+ghost use Rattle.capture_rules.specs.Doc.Time.{pattern, alike, time_in, time};
 ghost use Rattle.dates.specs.Told.{time_of, parsed_of};
 
 mod calendar;
@@ -18,20 +18,8 @@ pub struct Time {
     pub second: u8,
 }
 
-// Where there is no such date and time, the one refusal is 37.
-#[derive(Clone, Copy)]
-pub enum Parsed {
-    Taken(Time),
-    NotATime,
-}
-
-pub(crate) fn between(low: u8, high: u8, n: u8) -> bool
-    ensures { result ≡ between low high n }
-{
-    low <= n && n <= high
-}
-
 // Where the six numbers stand in bytes of the shape.
+#[tactic(auto, unfolding(capture_rules::specs::Doc::Time::time_in))]
 fn time_in(value: &[u8]) -> Time
     requires { alike pattern value.now ≡ true }
     ensures { time_of result ≡ time_in value.now }
@@ -46,19 +34,19 @@ fn time_in(value: &[u8]) -> Time
     }
 }
 
-// The numbers are read only of bytes that have the shape, so that each byte in a digit's place is a digit.
-pub fn parse(value: &[u8]) -> Parsed
+// None where there is no such date and time: of all those the refusal is 37. The numbers are read only of bytes that have the shape, so that each byte
+// in a digit's place is a digit.
+#[tactic(auto, unfolding(capture_rules::specs::Doc::Time::time, capture_rules::specs::Doc::Time::pattern))]
+pub fn parse(value: &[u8]) -> Option<Time>
     ensures { parsed_of result ≡ time value.now }
 {
     if !shape::alike(b"0000:00:00 00:00:00\0", value) {
-        return Parsed::NotATime;
+        return None;
     }
     let found = time_in(value);
-    if !calendar::is_date(found) {
-        return Parsed::NotATime;
+    if calendar::is_date(found) && calendar::is_clock(found) {
+        Some(found)
+    } else {
+        None
     }
-    if !calendar::is_clock(found) {
-        return Parsed::NotATime;
-    }
-    Parsed::Taken(found)
 }

@@ -1,7 +1,7 @@
 // Signed fractions in lowest terms.
 #![tactic(auto)]
 
-ghost use Rattle.std.specs.Prelude.{◌≡◌, ◌≤◌, ◌^◌, pos, nat_abs};
+ghost use Rattle.std.specs.Prelude.{◌≡◌, pos};
 ghost use Rattle.capture_rules.specs.Doc.Fraction as doc;
 ghost use Rattle.fraction.specs.Told.{fraction_of};
 
@@ -13,61 +13,44 @@ pub struct Fraction {
 }
 
 // The number that four bytes hold which read as `n`: two's complement.
+#[tactic(auto, unfolding(capture_rules::specs::Doc::Fraction::signed32))]
 pub fn signed32(n: u32) -> i32
     ensures { result ≡ doc.signed32 n }
 {
-    if n < 0x80000000 {
-        n as i32
-    } else {
-        (n as i64 - 0x100000000) as i32
-    }
+    n.cast_signed()
 }
 
-fn magnitude(x: i32) -> u64
-    ensures { result ≡ nat_abs x }
-{
-    let wide = x as i64;
-    if wide < 0 {
-        (-wide) as u64
-    } else {
-        wide as u64
-    }
-}
-
-fn with_sign(negative: bool, size: u64) -> i64
-    requires { size ≤ 2 ^ 31 }
+fn with_sign(negative: bool, size: u32) -> i64
     ensures { result ≡ doc.with_sign negative size }
 {
-    let wide = size as i64;
+    let wide = i64::from(size);
     if negative { -wide } else { wide }
 }
 
 // By Euclid: x and y become y and what is left of x, and their greatest common divisor stays.
-fn gcd(a: u64, b: u64) -> u64
+#[tactic(auto, using(capture_rules::specs::Laws::Euclid::gcd_turn, capture_rules::specs::Laws::Euclid::gcd_none))]
+fn gcd(a: u32, b: u32) -> u32
     ensures { result ≡ doc.gcd a b }
 {
     let mut x = a;
     let mut y = b;
     while y != 0 {
-        let rest = x % y;
-        x = y;
-        y = rest;
+        (x, y) = (y, x % y);
     }
     x
 }
 
+#[tactic(auto, unfolding(capture_rules::specs::Doc::Fraction::lowest), using(capture_rules::specs::Laws::Lowest::divisor_above))]
 pub fn lowest(num: i32, den: i32) -> Fraction
     requires { den ≡ pos 0 → ⊥ }
     ensures { fraction_of result ≡ doc.lowest num den }
 {
-    let n = magnitude(num);
-    let d = magnitude(den);
+    let n = num.unsigned_abs();
+    let d = den.unsigned_abs();
     let g = gcd(n, d);
-    let above = n / g;
-    let below = d / g;
     let negative = (num < 0) != (den < 0);
     Fraction {
-        num: with_sign(negative, above),
-        den: below,
+        num: with_sign(negative, n / g),
+        den: u64::from(d / g),
     }
 }

@@ -1,35 +1,18 @@
--- A directory case by case, where its entries lie, and its entries one after another up to the first with a tag.
-use Rattle.std.specs.Prelude.{◌≡◌, Bool, true, false, not, List, length, leb}
+-- Where the entries of a directory lie, and its entries one after another up to the first with a tag.
+use Rattle.std.specs.Prelude.{◌≡◌, List, length, leb, Result, Ok}
 use Rattle.std.proofs.Math.Path.{refl}
 use Rattle.std.proofs.Math.Option.{Option, none, some}
 use Prim.Native.Nat.{ℕ, suc, ◌+◌, ◌-◌, ◌*◌, ◌≤◌, ◌<◌}
 use native.Mathlib.Omega.{arith}
-use borrow.Author.Tests.{leb-true, not-true, not-false, eq-eqb, ne_eqb}
-use Rattle.rules.specs.Doc.Outcomes.{fine, refused, require}
+use borrow.Author.Tests.{leb-true, eq-eqb, ne_eqb}
+use Rattle.rules.specs.Doc.Outcomes.{fine, require}
 use Rattle.rules.specs.Doc.Lists.{only, first_of}
 use Rattle.rules.specs.Doc.Endian.{Endian, number_in}
 use Rattle.rules.specs.Laws.Rows.{bind_fine, required}
 use Rattle.capture_rules.specs.Doc.Directory.{Entry, entry_at, entries, Directory, directory, first_with, find}
 use Rattle.tiff.specs.Told.{directory_of}
+use Rattle.tiff.specs.declared.fault.Fault.{Fault}
 use Rattle.tiff.specs.declared.directory.Directory as code
-use Rattle.tiff.specs.declared.directory.Directory.TheVariants.{Entries}
-
--- ---- Directories
-
--- by what `inside` says of the count (`q`) and of the entries (`p`)
-module _ (e : Endian) (b : List ℕ) (at : ℕ) {q : Bool} (f : q ≡ leb (at + 2) (length b)) where
-  pub count_outside : not q ≡ true → refused 35 ≡ directory e b at
-  unfolding directory
-  count_outside n = rw (← f, not-true q n)
-
-  module _ (n : not q ≡ false) {count : ℕ} (c : count ≡ number_in e b at 2) {p : Bool} (g : p ≡ leb (at + 2 + 12 * count) (length b)) where
-    pub entries_outside : not p ≡ true → refused 35 ≡ directory e b at
-    unfolding directory
-    entries_outside m = rw (← f, not-false q n, ← c, ← g, not-true p m)
-
-    pub directory_is : not p ≡ false → fine (record { from = at + 2; count = count }) ≡ directory e b at
-    unfolding directory
-    directory_is m = rw (← f, not-false q n, ← c, ← g, not-false p m)
 
 -- a directory that is read has its entries inside the block
 pub directory_inside : (e : Endian) (b : List ℕ) (at : ℕ) {d : Directory} → fine d ≡ directory e b at → d.from + 12 * d.count ≤ length b
@@ -46,8 +29,8 @@ directory_inside e b at {d} f =
     go {x} k i = let z : d ≡ x = cc in rw z i
 
 -- the same of an answer of `read_directory`
-pub entries_inside : (e : Endian) (b : List ℕ) (at : ℕ) {r : code.Directory} {from count : ℕ}
-    → directory_of r ≡ directory e b at → r ≡ Entries from count → from + 12 * count ≤ length b
+pub entries_inside : (e : Endian) (b : List ℕ) (at : ℕ) {r : Result code.Directory Fault} {d : code.Directory}
+    → directory_of r ≡ directory e b at → r ≡ Ok d → d.from + 12 * d.count ≤ length b
 entries_inside e b at f g = directory_inside e b at (rw g at f)
 
 -- ---- Entries, up to the first with a tag
@@ -74,8 +57,8 @@ module _ (e : Endian) (b : List ℕ) (tag at n : ℕ) {o : Option Entry} (inv : 
         let k : n ≡ suc (n - 1) = omega arith in
         rw (k, ← is, s, eq-eqb tag tag refl, ← p, ← q, ← r) at inv
 
-    pub find_later : (t ≡ tag → ⊥) → {next : ℕ} → next ≡ at + 12 → find_from e b tag next (n - 1) ≡ o
+    pub find_later : (t ≡ tag → ⊥) → {next rest : ℕ} → next ≡ at + 12 → rest ≡ n - 1 → find_from e b tag next rest ≡ o
     unfolding find first_with entries entry_at only first_of
-    find_later d f =
+    find_later d f g =
         let k : n ≡ suc (n - 1) = omega arith in
-        rw (k, ← is, ne_eqb t tag d, ← f) at inv
+        rw (k, ← is, ne_eqb t tag d, ← f, ← g) at inv

@@ -13,15 +13,6 @@ use Rattle.capture_rules.specs.Doc.Header.{II, MM, Header, order_of, header}
 unfoldable pub header_in : Endian → List ℕ → Outcome Header
 header_in e b = require (eqb (number_in e b 2 2) 42) 34 >>= λ u. fine (record { order = e; first = number_in e b 4 4 })
 
-module _ (e : Endian) (b : List ℕ) {n : ℕ} (is : n ≡ number_in e b 2 2) where
-  pub not_42 : (n ≡ 42 → ⊥) → refused 34 ≡ header_in e b
-  unfolding header_in
-  not_42 o = rw (← is, ne_eqb n 42 o)
-
-  pub with_42 : n ≡ 42 → {first : ℕ} → first ≡ number_in e b 4 4 → fine (record { order = e; first = first }) ≡ header_in e b
-  unfolding header_in
-  with_42 f g = rw (← is, f, ← g)
-
 -- the letters as the code has them
 II-is : II ≡ 0x4949
 unfolding number_at

@@ -9,9 +9,9 @@ use crate::fault::Fault;
 use endian::Endian;
 
 #[derive(Clone, Copy)]
-pub enum Header {
-    Read { order: Endian, first: usize },
-    Refused(Fault),
+pub struct Header {
+    pub order: Endian,
+    pub first: usize,
 }
 
 impl Header {
@@ -23,29 +23,29 @@ impl Header {
 }
 
 // The rest of a header, once its order is known.
-fn read_in(order: Endian, block: &[u8]) -> Header
+#[tactic(auto, unfolding(crate::specs::Headers::header_in))]
+fn read_in(order: Endian, block: &[u8]) -> Result<Header, Fault>
     requires { 8 ≤ length block.now }
     ensures { header_of result ≡ header_in (endian_of order) block.now }
 {
     if order.loadu16(block, 2) != 42 {
-        return Header::Refused(Fault::Header);
+        return Err(Fault::Header);
     }
-    Header::Read {
-        order: order,
-        first: order.loadu32(block, 4) as usize,
-    }
+    let first = order.loadu32(block, 4) as usize;
+    Ok(Header { order, first })
 }
 
 // The two letters are the same, so either byte order reads them alike.
-pub fn read_header(block: &[u8]) -> Header
+#[tactic(auto, using(crate::specs::Headers::header_short, crate::specs::Headers::header_little, crate::specs::Headers::header_big, crate::specs::Headers::header_other))]
+pub fn read_header(block: &[u8]) -> Result<Header, Fault>
     ensures { header_of result ≡ header block.now }
 {
     if block.len() < Header::SIZE {
-        return Header::Refused(Fault::Header);
+        return Err(Fault::Header);
     }
     match endian::loadu16(block, 0) {
         Header::II => read_in(Endian::Little, block),
         Header::MM => read_in(Endian::Big, block),
-        _ => Header::Refused(Fault::Header),
+        _ => Err(Fault::Header),
     }
 }

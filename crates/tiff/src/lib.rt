@@ -2,9 +2,13 @@
 #![tactic(auto)]
 
 mod directory;
+mod entry;
 mod fault;
 mod header;
+mod read;
 
-pub use directory::{Directory, Found, find, inside, read_directory};
+pub use directory::Directory;
+pub use entry::Entry;
 pub use fault::Fault;
 pub use header::{Header, read_header};
+pub use read::{inside, read_directory};

@@ -6,15 +6,15 @@ use Rattle.capture_rules.specs.Doc.Capture.{photo}
 use Rattle.capture_rules.specs.Doc.Line.{line_text}
 use Rattle.capture_line.proofs.photo_line_whole.Goals as goal
 
-pub returns : goal.returns
+pub returns-clause-value : goal.returns-clause-value
+returns-clause-value c =
+    let told = c.photo_line.ensures in
+    (told.value, omega (arith, told.value, line_limit c.args.image.now c.args.block.now))
+
+pub returns-clause-out_after : goal.returns-clause-out_after
 unfolding printed
-returns c =
+returns-clause-out_after c =
     let a = c.args in
     let told = c.photo_line.ensures in
-    let limit = line_limit a.image.now a.block.now in
-    let whole = take_all (length a.out.now) (line_text (photo a.image.now a.block.now)) (omega (arith, limit)) in
-    record {
-      value = (told.value, omega (arith, told.value, limit));
-      out_after = told.out_after ∙ rw (told.value, printed, whole);
-      block_after = told.block_after;
-    }
+    let line = line_text (photo a.image.now a.block.now) in
+    told.out_after ∙ rw (told.value, printed, take_all (length a.out.now) line (omega (arith, line_limit a.image.now a.block.now)))

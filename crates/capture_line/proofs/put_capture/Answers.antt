@@ -6,7 +6,7 @@ use Rattle.rules.specs.Doc.Text.{ascii}
 use Rattle.rules.specs.Doc.Outcomes.{fine}
 use Rattle.rules.specs.Doc.Listing.{newline}
 use Rattle.capture_rules.specs.Doc.Line.{time_text, bias_text, line_text}
-use Rattle.capture_rules.specs.Laws.LineText.{time_length, line_length}
+use Rattle.capture_rules.specs.Laws.LineText.{line_length}
 use Rattle.dates.specs.Told.{time_of}
 use Rattle.capture.specs.declared.Capture.{Capture}
 use Rattle.capture.specs.Told.{bias_of, capture_of}
@@ -24,10 +24,6 @@ bias capture = bias_text (bias_of capture.bias)
 room : (capture : Capture) → PrintableLine (fine (capture_of capture)) → 0 + length (date capture ++ bias capture ++ newline) < 2 ^ 64
 unfolding line_text
 room capture printable = omega (arith, line_length (capture_of capture) printable.1)
-
-pub put-at-requires-2 : goal.put-at-requires-2
-put-at-requires-2 c =
-    omega (arith, c.put-at.ensures.place, c.put_time-at.ensures.place, time_length (time_of c.args.capture.time))
 
 pub put_bias-at-requires : goal.put_bias-at-requires
 put_bias-at-requires c =

@@ -1,7 +1,7 @@
--- Each number is read where the pattern has zeros, so there are digits, and it is the number that the definition has there.
+-- Each number is read where the pattern has zeros, so there are digits.
 use mathlib.Core.Path.{refl}
 use lib.Dec.{lit≤}
-use Rattle.capture_rules.specs.Doc.Time.{pattern, time_in}
+use Rattle.capture_rules.specs.Doc.Time.{pattern}
 use Rattle.capture_rules.specs.Laws.Shape.{zeros, time_digits}
 use Rattle.dates.proofs.time_in.Goals as goal
 
@@ -30,15 +30,3 @@ two-requires-4 c = time_digits _ c.requires 14 2 refl (lit≤ tt)
 pub two-requires-5 : goal.two-requires-5
 unfolding pattern zeros
 two-requires-5 c = time_digits _ c.requires 17 2 refl (lit≤ tt)
-
-pub returns : goal.returns
-unfolding time_in
-returns c =
-    rw (
-      ← c.two-5.ensures,
-      ← c.two-4.ensures,
-      ← c.two-3.ensures,
-      ← c.two-2.ensures,
-      ← c.two.ensures,
-      ← c.decimal.ensures.0,
-    )

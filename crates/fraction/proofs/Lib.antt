@@ -1,2 +1,0 @@
--- Small numbers in 64 bits.
-pub mod Wide
