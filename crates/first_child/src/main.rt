@@ -2,30 +2,21 @@
 #![tactic(auto)]
 
 use boxes::Child;
+use splitter::Counted;
 use std::io;
 use std::io::{Read, Write};
 use streams::read_full;
 
 const MOST_IMAGE: usize = 4096;
 
-fn say<W: Write>(name: &str, value: u64, writer: &mut W) -> io::Result<()> {
-    write!(writer, "{name}{value}")
-}
-
 fn show<W: Write>(name: &str, bytes: &[u8], writer: &mut W) -> io::Result<()> {
     write!(writer, "{name}")?;
-    let counted = splitter::children(bytes);
-    let first = counted.first;
+    let Counted { first, count } = splitter::children(bytes);
     match first {
-        Child::Whole { kind, from, to } => {
-            write!(writer, " type={kind:08x}")?;
-            say(" from=", from as u64, writer)?;
-            say(" to=", to as u64, writer)?;
-        }
-        Child::Refused(e) => say(" answer=", e.number() as u64, writer)?,
+        Ok(Child { kind, from, to }) => write!(writer, " type={kind:08x} from={from} to={to}")?,
+        Err(e) => write!(writer, " answer={}", e.number())?,
     }
-    say(" children=", counted.count as u64, writer)?;
-    writeln!(writer)
+    writeln!(writer, " children={count}")
 }
 
 // The bytes from `from` to `to`, where the image has them.
@@ -36,10 +27,10 @@ fn show_part<W: Write>(
     to: usize,
     writer: &mut W,
 ) -> io::Result<()> {
-    if from <= to && to <= image.len() {
-        show(name, &image[from..to], writer)?;
+    match image.get(from..to) {
+        Some(part) => show(name, part, writer),
+        None => Ok(()),
     }
-    Ok(())
 }
 
 fn run<R: Read, W: Write>(image: &mut [u8], reader: &mut R, writer: &mut W) -> io::Result<()> {

@@ -1,5 +1,5 @@
 -- Calls of every method that moves on, with what the Rust answers and what it has left: one list with one claim. The checker computes them.
-use Rattle.std.specs.Prelude.{ℕ, Bool, ◌&&◌, List, [], ◌∷◌, ◌++◌, drop, T}
+use Rattle.std.specs.Prelude.{ℕ, Bool, ◌&&◌, List, [], ◌∷◌, length, drop, T}
 use Rattle.std.proofs.Math.Option.{Option, none, some}
 use Rattle.rules.specs.Doc.Outcomes.{Outcome, fine, refused}
 use Rattle.rules.specs.Doc.Lists.{same}
@@ -7,7 +7,7 @@ use Rattle.rules.specs.Doc.Bytes.{field}
 use Rattle.rules.specs.Doc.Headers.{ftyp}
 use Rattle.rules.specs.Cases.{line, H, every}
 use Rattle.rules.specs.Unfold.{document}
-use Rattle.splitter.specs.Front.{as_sized, sized_front, full_box_at, array4_at, fitting, taken, type_of, body_of, type_at, body_at}
+use Rattle.splitter.specs.Front.{as_sized, sized_front, full_box_at, array4_at, slice_front, child_box_at}
 use Rattle.splitter.specs.Behind.{behind, behind_sized, read_of, header_read, end_of, past_box, behind_box}
 
 pub data Method : Type 0 where
@@ -20,7 +20,7 @@ pub data Method : Type 0 where
   array4 : Method
   slice : ℕ → Method
 
--- An answer as numbers: 0 and the values, or the number of the refusal; then the bytes that come with it.
+-- An answer as numbers: 0 and the values, or the number of the refusal. Of bytes the values are how many there are, and they.
 unfoldable pub told : {A : Type 0} → (A → List ℕ) → Outcome A → List ℕ
 told values (fine a) = 0 ∷ values a
 told values (refused n) = n ∷ []
@@ -28,19 +28,22 @@ told values (refused n) = n ∷ []
 unfoldable pub single : ℕ → List ℕ
 single v = v ∷ []
 
+unfoldable pub bytes : List ℕ → List ℕ
+bytes l = length l ∷ l
+
 unfoldable pub perhaps : Option ℕ → List ℕ
 perhaps none = []
 perhaps (some v) = v ∷ []
 
 unfoldable pub says : Method → List ℕ → List ℕ
-says child_box s = told single (type_at s 0) ++ body_at s 0
+says child_box s = told (λ v. v.0 ∷ v.1) (child_box_at s 0)
 says (size048 w) s = told perhaps (sized_front s w)
 says fullbox_header s = told (λ v. v.0 ∷ v.1 ∷ []) (full_box_at s 0)
 says uint16 s = told single (field s 0 2)
 says uint32 s = told single (field s 0 4)
 says uint64 s = told single (field s 0 8)
-says array4 s = told single (array4_at s 0).0 ++ (array4_at s 0).1
-says (slice n) s = told single (fitting s n) ++ taken s n
+says array4 s = told bytes (array4_at s 0)
+says (slice n) s = told bytes (slice_front s n)
 
 unfoldable pub leaves : Method → List ℕ → List ℕ
 leaves child_box s = behind_box s 0
@@ -96,9 +99,9 @@ cases =
     -- version and flags
     ∷ call fullbox_header (line 5 0x02_fffffe_05) (0 ∷ 2 ∷ 0xfffffe ∷ []) (line 1 0x05)
     ∷ call fullbox_header (line 3 0x02ffff) (3 ∷ []) (line 3 0x02ffff)
-    -- four bytes; where they are refused, zeros stand in their place
+    -- four bytes
     ∷ call array4 (line 5 0x01020304_05) (0 ∷ 4 ∷ line 4 0x01020304) (line 1 0x05)
-    ∷ call array4 (line 3 0x010203) (3 ∷ line 4 0) (line 3 0x010203)
+    ∷ call array4 (line 3 0x010203) (3 ∷ []) (line 3 0x010203)
     -- sizes 0, 4 and 8, too few bytes for them, and a size that gives no number
     ∷ call (size048 0) (line 2 0x0102) (0 ∷ 0 ∷ []) (line 2 0x0102)
     ∷ call (size048 0) [] (0 ∷ 0 ∷ []) []
@@ -118,6 +121,6 @@ unfoldable pub right : Case → Bool
 right c = same (says c.method c.bytes) c.said && same (leaves c.method c.bytes) c.left
 
 pub all_cases : T (every right cases)
-unfolding document every right same cases call says leaves told single perhaps H line as_sized sized_front full_box_at array4_at fitting taken
-    type_of body_of type_at body_at behind behind_sized read_of header_read end_of past_box behind_box
+unfolding document every right same cases call says leaves told single bytes perhaps H line as_sized sized_front full_box_at array4_at slice_front child_box_at
+    behind behind_sized read_of header_read end_of past_box behind_box
 all_cases = tt

@@ -1,16 +1,17 @@
 -- What is left of the bytes after a call, where it succeeds and where it is refused: laws over `Front` and `Behind`.
-use Rattle.std.specs.Prelude.{◌≡◌, refl, ℕ, ◌+◌, ◌-◌, ◌≤◌, ◌<◌, Bool, true, false, ◌||◌, List, [], ◌++◌, length, take, drop, leb, ltb, eqb, if◌then◌else◌}
+use Rattle.std.specs.Prelude.{◌≡◌, refl, ℕ, ◌+◌, ◌-◌, ◌≤◌, ◌<◌, false, ◌||◌, List, ◌++◌, length, take, drop, leb, ltb, eqb}
 use Rattle.std.proofs.Common.{sym, ap, zero-add, length-drop, take-append-drop, ltb-false, le-leb, ne_eqb}
 use native.Mathlib.Omega.{arith}
 use Rattle.std.proofs.Math.Option.{Option, none, some}
 use Rattle.std.proofs.Math.Seq.{take-add}
 use Rattle.rules.specs.Doc.Outcomes.{Outcome, fine, refused, ◌>>=◌}
-use Rattle.rules.specs.Doc.Bytes.{number_at, part, size_of, field}
-use Rattle.rules.specs.Doc.Headers.{Box, box_of, child_at}
+use Rattle.rules.specs.Doc.Bytes.{number_at, size_of, bytes_in, field}
+use Rattle.rules.specs.Doc.Headers.{Box, child_at}
 use Rattle.rules.specs.Laws.Rows.{apart, by_test}
 use Rattle.rules.specs.Laws.Numbers.{bytes_in_is, field_in}
 use Rattle.rules.specs.Laws.Headers.{child_inside}
-use Rattle.splitter.specs.Front.{as_sized, sized_front, full_box_at, array4_at, fitting, taken, body_at, body_of}
+use Rattle.splitter.specs.Taken.{fits}
+use Rattle.splitter.specs.Front.{as_sized, sized_front, full_box_at, array4_at, slice_front, child_box_at}
 use Rattle.splitter.specs.Behind.{behind, behind_sized, read_of, header_read, end_of, past_box, behind_box}
 
 -- where there are enough bytes, and where there are too few
@@ -24,20 +25,17 @@ too_few s n h = rw h
 
 -- ---- A slice
 
--- What a slice hands out and what is left make the whole. Where it is refused, nothing is handed out.
-pub slice_and_left : (s : List ℕ) (n : ℕ) → taken s n ++ behind s n ≡ s
-unfolding taken behind
-slice_and_left s n = go (leb n (length s))
-  where
-    go : (t : Bool) → (if t then take n s else []) ++ (if t then drop n s else s) ≡ s
-    go true = take-append-drop n s
-    go false = refl
+-- What a slice hands out and what is left make the whole.
+pub slice_and_left : (s : List ℕ) (n : ℕ) {p : List ℕ} → slice_front s n ≡ fine p → p ++ behind s n ≡ s
+slice_and_left s n e =
+    let f = fits s n (sym e) in
+    rw (f.is, enough s n f.enough) (take-append-drop n s)
 
 -- Where a slice is refused, nothing is gone.
-pub slice_refused : (s : List ℕ) (n : ℕ) {k : ℕ} → fitting s n ≡ refused k → behind s n ≡ s
-unfolding fitting
+pub slice_refused : (s : List ℕ) (n : ℕ) {k : ℕ} → slice_front s n ≡ refused k → behind s n ≡ s
+unfolding slice_front
 slice_refused s n {k} =
-    by_test (λ (o : Outcome ℕ). o ≡ refused k → behind s n ≡ s) (leb n (length s)) (λ h e. absurd (apart e)) (λ h e. too_few s n h)
+    by_test (λ (o : Outcome (List ℕ)). o ≡ refused k → behind s n ≡ s) (leb n (length s)) (λ h e. absurd (apart e)) (λ h e. too_few s n h)
 
 -- ---- A number, four bytes, the header of a full box: where they are refused, nothing is gone
 
@@ -47,10 +45,10 @@ field_refused s n {k} =
     by_test (λ (o : Outcome ℕ). o ≡ refused k → behind s n ≡ s) (leb (0 + n) (length s)) (λ h e. absurd (apart e))
     (λ h e. too_few s n (rw zero-add at h))
 
-pub array4_refused : (s : List ℕ) {k : ℕ} → (array4_at s 0).0 ≡ refused k → behind s 4 ≡ s
+pub array4_refused : (s : List ℕ) {k : ℕ} → array4_at s 0 ≡ refused k → behind s 4 ≡ s
 unfolding array4_at
 array4_refused s {k} =
-    by_test (λ (o : Outcome ℕ × List ℕ). o.0 ≡ refused k → behind s 4 ≡ s) (leb 4 (length s)) (λ h e. absurd (apart e)) (λ h e. too_few s 4 h)
+    by_test (λ (o : Outcome (List ℕ)). o ≡ refused k → behind s 4 ≡ s) (leb 4 (length s)) (λ h e. absurd (apart e)) (λ h e. too_few s 4 h)
 
 -- what is made of a number is refused only where the number is
 refused_before : {A B : Type 0} (o : Outcome A) (f : A → B) {k : ℕ} → (o >>= λ v. fine (f v)) ≡ refused k → o ≡ refused k
@@ -87,6 +85,14 @@ size_refused s w {k} e = by_test (λ (l : List ℕ). l ≡ s) (eqb w 4 || eqb w 
 
 -- ---- A child box
 
+-- two answers of a box that are the same have the same type and the same body
+pub same_box : {k j : ℕ} {a b : List ℕ} → ◌≡◌ {A = Outcome (ℕ × List ℕ)} (fine (k, a)) (fine (j, b)) → (k ≡ j) × (a ≡ b)
+same_box {k} {j} {a} {b} e =
+    let x : ℕ × List ℕ = (k, a) in
+    let y : ℕ × List ℕ = (j, b) in
+    let z : x ≡ y = cc in
+    (ap (λ (p : ℕ × List ℕ). p.0) z, ap (λ (p : ℕ × List ℕ). p.1) z)
+
 module _ (s : List ℕ) {b : Box} (e : child_at s 0 ≡ fine b) where
   -- Of a box that is whole, what follows its body is left.
   pub box_whole : behind_box s 0 ≡ drop b.body.to s
@@ -100,17 +106,13 @@ module _ (s : List ℕ) {b : Box} (e : child_at s 0 ≡ fine b) where
       rw (box_whole, length-drop b.body.to s) (omega arith)
 
   -- Header, body and what is left make the whole.
-  pub header_body_and_left : take b.body.from s ++ body_at s 0 ++ behind_box s 0 ≡ s
-  unfolding body_at body_of
-  header_body_and_left =
+  pub header_body_and_left : {kind : ℕ} {body : List ℕ} → child_box_at s 0 ≡ fine (kind, body) → take b.body.from s ++ body ++ behind_box s 0 ≡ s
+  unfolding child_box_at
+  header_body_and_left {kind} {body} told =
       let i = child_inside s 0 (sym e) in
       let end : b.body.from + size_of b.body ≡ b.body.to = omega arith in
-      rw (box_whole, e, bytes_in_is s b.body i.inner, ← take-add b.body.from (size_of b.body) s, end) (take-append-drop b.body.to s)
-
--- Of a box that is whole, the body lies inside, so it is there.
-pub body_whole : (s : List ℕ) (at : ℕ) {kind from to : ℕ} → fine (box_of at kind from to) ≡ child_at s at → part s from (to - from) ≡ body_at s at
-unfolding body_at body_of
-body_whole s at {kind} {from} {to} b = rw (← b, bytes_in_is s (record { from = from; to = to }) (child_inside s at b).inner)
+      let same : body ≡ bytes_in s b.body = sym (same_box (rw e at told)).1 in
+      rw (box_whole, same, bytes_in_is s b.body i.inner, ← take-add b.body.from (size_of b.body) s, end) (take-append-drop b.body.to s)
 
 -- no more of a header is read than there is
 read_inside : (left size : ℕ) → read_of left size ≤ left

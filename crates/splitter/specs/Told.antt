@@ -1,31 +1,29 @@
--- What the answers say: the values, or document 01's number; and of an answer with bytes, the bytes too.
-use Rattle.std.proofs.Math.Option.{Option, none, some}
-use Rattle.std.specs.Prelude.{List, ℕ}
-use Rattle.rules.specs.Doc.Outcomes.{Outcome, fine, refused}
-use Rattle.boxes.specs.Told.{number, field_of}
-use Rattle.splitter.specs.declared.front.Sized.{Sized}
-use Rattle.splitter.specs.declared.front.Sized.TheVariants as z
-use Rattle.splitter.specs.declared.front.FullBox.{FullBox}
-use Rattle.splitter.specs.declared.front.FullBox.TheVariants as f
-use Rattle.splitter.specs.declared.front.Array4.{Array4}
-use Rattle.splitter.specs.declared.piece.Piece.{Piece}
+-- What the answers say: the values, or document 01's number.
+use Rattle.std.specs.Prelude.{ℕ, List, Result, Option}
+use Rattle.std.specs.Borrow.{Bor}
+use Rattle.std.proofs.Math.Option as math
+use Rattle.rules.specs.Doc.Outcomes.{Outcome}
+use Rattle.rules.specs.Results.{outcome, perhaps}
+use Rattle.boxes.specs.Told.{number}
+use Rattle.boxes.specs.declared.refusal.Refusal.{Refusal}
 use Rattle.splitter.specs.declared.splitter.BoxSplitter.{BoxSplitter}
 
 -- the bytes behind a splitter
 abbrev pub held : BoxSplitter → List ℕ
 held b = b.inner.now
 
-abbrev pub sized_of : Sized → Outcome (Option ℕ)
-sized_of (z.Got v) = fine (some v)
-sized_of z.Other = fine none
-sized_of (z.Refused e) = refused (number e)
+abbrev pub sized_of : Result (Option ℕ) Refusal → Outcome (math.Option ℕ)
+sized_of = outcome number (perhaps (λ v. v))
 
-abbrev pub full_box_of : FullBox → Outcome (ℕ × ℕ)
-full_box_of (f.Got version flags) = fine (version, flags)
-full_box_of (f.Refused e) = refused (number e)
+abbrev pub full_box_of : Result (ℕ × ℕ) Refusal → Outcome (ℕ × ℕ)
+full_box_of = outcome number (λ v. v)
 
-abbrev pub array4_of : Array4 → Outcome ℕ × List ℕ
-array4_of a = (field_of a.told, a.bytes)
+abbrev pub array4_of : Result (List ℕ) Refusal → Outcome (List ℕ)
+array4_of = outcome number (λ a. a)
 
-abbrev pub piece_of : Piece → Outcome ℕ × List ℕ
-piece_of p = (field_of p.told, p.bytes.now)
+abbrev pub piece_of : Result (Bor (List ℕ)) Refusal → Outcome (List ℕ)
+piece_of = outcome number (λ p. p.now)
+
+-- of a box, its type and its body
+abbrev pub child_of : Result (ℕ × BoxSplitter) Refusal → Outcome (ℕ × List ℕ)
+child_of = outcome number (λ c. (c.0, held c.1))

@@ -1,56 +1,50 @@
 -- No two outcomes meet a contract of this crate. Of bytes that are handed out or left it is said which they are, and not where they lie.
-use Rattle.std.specs.Prelude.{◌≡◌, refl, ℕ, Bool, List, length, eqb}
+use Rattle.std.specs.Prelude.{◌≡◌, refl, ℕ, Bool, List, length, eqb, Result, Ok, Err, Option}
 use Rattle.std.proofs.Common.{sym, ap, ap₂, ◌∙◌}
-use Rattle.std.proofs.Math.Option.{Option, none, some}
+use Rattle.std.proofs.Math.Option as math
 use Rattle.std.specs.Borrow.{Bor}
 use Rattle.rules.specs.Doc.Outcomes.{Outcome, fine, refused}
 use Rattle.rules.specs.Doc.Headers.{Box, child_at}
-use Rattle.boxes.specs.Told.{child, field_of}
 use Rattle.rules.specs.Laws.Back.{one}
-use Rattle.boxes.specs.Unique.{as_refusal, refusal_back, as_child, child_back, field_one}
-use Rattle.boxes.specs.declared.field.Number.{Number}
-use Rattle.splitter.specs.Told.{held, sized_of, full_box_of, array4_of, piece_of}
+use Rattle.rules.specs.Laws.Rows.{apart}
+use Rattle.rules.specs.Results.{outcome, as_option, option_back}
+use Rattle.boxes.specs.Told.{number, child, field_of}
+use Rattle.boxes.specs.Unique.{refusal_one, refusal_result_one, as_child, child_back, field_one}
+use Rattle.boxes.specs.declared.refusal.Refusal.{Refusal}
+use Rattle.splitter.specs.Told.{held, sized_of, full_box_of, array4_of, piece_of, child_of}
 use Rattle.splitter.specs.Children.{whole_children}
 use Rattle.splitter.specs.declared.count.Counted.{Counted}
-use Rattle.splitter.specs.declared.front.Sized.{Sized}
-use Rattle.splitter.specs.declared.front.Sized.TheVariants as z
-use Rattle.splitter.specs.declared.front.FullBox.{FullBox}
-use Rattle.splitter.specs.declared.front.FullBox.TheVariants as f
-use Rattle.splitter.specs.declared.front.Array4.{Array4}
-use Rattle.splitter.specs.declared.piece.Piece.{Piece}
 use Rattle.splitter.specs.declared.splitter.BoxSplitter.{BoxSplitter}
 
 -- ---- What is told determines the answer
 
-as_sized : Outcome (Option ℕ) → Sized
-as_sized (fine (some v)) = z.Got v
-as_sized (fine none) = z.Other
-as_sized (refused n) = z.Refused (as_refusal n)
+fine_same : {B : Type 0} {a b : B} → fine a ≡ fine b → a ≡ b
+fine_same e = cc
 
-sized_back : (x : Sized) → as_sized (sized_of x) ≡ x
-unfolding as_sized
-sized_back (z.Got v) = refl
-sized_back z.Other = refl
-sized_back (z.Refused e) = ap z.Refused (refusal_back e)
+refused_same : {B : Type 0} {m n : ℕ} → ◌≡◌ {A = Outcome B} (refused m) (refused n) → m ≡ n
+refused_same e = cc
 
-as_full_box : Outcome (ℕ × ℕ) → FullBox
-as_full_box (fine v) = f.Got v.0 v.1
-as_full_box (refused n) = f.Refused (as_refusal n)
+-- two answers that refuse for the same reason, or give what is the same
+abbrev pub Alike : {A : Type 0} → (A → A → Type 0) → Result A Refusal → Result A Refusal → Type 0
+Alike Same (Ok a) (Ok b) = Same a b
+Alike Same (Err e) (Err f) = e ≡ f
+Alike Same (Ok a) (Err f) = ⊥
+Alike Same (Err e) (Ok b) = ⊥
 
-fullbox_back : (x : FullBox) → as_full_box (full_box_of x) ≡ x
-unfolding as_full_box
-fullbox_back (f.Got version flags) = refl
-fullbox_back (f.Refused e) = ap f.Refused (refusal_back e)
+alike : {A B : Type 0} (tell : A → B) {Same : A → A → Type 0} → ((a b : A) → tell a ≡ tell b → Same a b) → (x y : Result A Refusal)
+    → outcome number tell x ≡ outcome number tell y → Alike Same x y
+alike tell same (Ok a) (Ok b) e = same a b (fine_same e)
+alike tell same (Err d) (Err f) e = refusal_one (refused_same e)
+alike tell same (Ok a) (Err f) e = apart e
+alike tell same (Err d) (Ok b) e = apart (sym e)
 
-array4_same : (x y : Array4) → array4_of x ≡ array4_of y → x ≡ y
-array4_same x y e = ap₂ (λ told bytes. record { told = told; bytes = bytes }) (field_one (ap (λ o. o.0) e) refl) (ap (λ o. o.1) e)
+-- of a piece, the bytes
+abbrev pub SamePiece : Result (Bor (List ℕ)) Refusal → Result (Bor (List ℕ)) Refusal → Type 0
+SamePiece = Alike (λ p q. p.now ≡ q.now)
 
--- of a piece, the number and the bytes
-abbrev pub SamePiece : Piece → Piece → Type 0
-SamePiece x y = (x.told ≡ y.told) × (x.bytes.now ≡ y.bytes.now)
-
-piece_same : (x y : Piece) → piece_of x ≡ piece_of y → SamePiece x y
-piece_same x y e = (field_one (ap (λ o. o.0) e) refl, ap (λ o. o.1) e)
+-- of a box, the type and the bytes of the body
+abbrev pub SameChild : Result (ℕ × BoxSplitter) Refusal → Result (ℕ × BoxSplitter) Refusal → Type 0
+SameChild = Alike (λ c d. (c.0 ≡ d.0) × (held c.1 ≡ held d.1))
 
 -- ---- The methods that move on
 
@@ -65,29 +59,34 @@ module _ {left : List ℕ} (after after' : BoxSplitter) where
   moved_one tell Same same x y p q = (same x y (p.0 ∙ sym q.0), p.1 ∙ sym q.1)
 
   -- of `uint16`, `uint32` and `uint64`
-  pub number_one : {told : Outcome ℕ} (x y : Number)
+  pub number_one : {told : Outcome ℕ} (x y : Result ℕ Refusal)
       → Meets field_of told left x after → Meets field_of told left y after' → (x ≡ y) × (held after ≡ held after')
   number_one = moved_one field_of ◌≡◌ (λ x y e. field_one e refl)
 
   -- of `size048`
-  pub sized_one : {told : Outcome (Option ℕ)} (x y : Sized)
+  pub sized_one : {told : Outcome (math.Option ℕ)} (x y : Result (Option ℕ) Refusal)
       → Meets sized_of told left x after → Meets sized_of told left y after' → (x ≡ y) × (held after ≡ held after')
-  sized_one = moved_one sized_of ◌≡◌ (λ x y e. one sized_of as_sized sized_back e refl)
+  sized_one = moved_one sized_of ◌≡◌ (λ x y e. refusal_result_one _ (as_option (λ v. v) (λ v. v) (λ v. refl)) (option_back (λ v. v) (λ v. v) (λ v. refl)) e refl)
 
   -- of `fullbox_header`
-  pub fullbox_one : {told : Outcome (ℕ × ℕ)} (x y : FullBox)
+  pub fullbox_one : {told : Outcome (ℕ × ℕ)} (x y : Result (ℕ × ℕ) Refusal)
       → Meets full_box_of told left x after → Meets full_box_of told left y after' → (x ≡ y) × (held after ≡ held after')
-  fullbox_one = moved_one full_box_of ◌≡◌ (λ x y e. one full_box_of as_full_box fullbox_back e refl)
+  fullbox_one = moved_one full_box_of ◌≡◌ (λ x y e. refusal_result_one _ (λ v. v) (λ v. refl) e refl)
 
   -- of `array4`
-  pub array4_one : {told : Outcome ℕ × List ℕ} (x y : Array4)
+  pub array4_one : {told : Outcome (List ℕ)} (x y : Result (List ℕ) Refusal)
       → Meets array4_of told left x after → Meets array4_of told left y after' → (x ≡ y) × (held after ≡ held after')
-  array4_one = moved_one array4_of ◌≡◌ array4_same
+  array4_one = moved_one array4_of ◌≡◌ (λ x y e. refusal_result_one _ (λ a. a) (λ a. refl) e refl)
 
-  -- of `slice` and `child_box`
-  pub piece_one : {told : Outcome ℕ × List ℕ} (x y : Piece)
+  -- of `slice`
+  pub piece_one : {told : Outcome (List ℕ)} (x y : Result (Bor (List ℕ)) Refusal)
       → Meets piece_of told left x after → Meets piece_of told left y after' → SamePiece x y × (held after ≡ held after')
-  piece_one = moved_one piece_of SamePiece piece_same
+  piece_one = moved_one piece_of SamePiece (alike (λ p. p.now) (λ p q e. e))
+
+  -- of `child_box`
+  pub child_box_one : {told : Outcome (ℕ × List ℕ)} (x y : Result (ℕ × BoxSplitter) Refusal)
+      → Meets child_of told left x after → Meets child_of told left y after' → SameChild x y × (held after ≡ held after')
+  child_box_one = moved_one child_of SameChild (alike _ (λ c d e. (ap (λ (p : ℕ × List ℕ). p.0) e, ap (λ (p : ℕ × List ℕ). p.1) e)))
 
 -- ---- The others
 

@@ -1,61 +1,19 @@
-// What is left of a slice, as the Rust leaves it: what was read is gone, and where nothing could be read nothing is.
-ghost use Rattle.std.specs.Prelude.{◌≡◌, ◌-◌, ◌≤◌, length};
-ghost use Rattle.splitter.specs.Behind.{behind, behind_sized, header_read, past_box, behind_box};
+// What is gone of a box that is refused.
+ghost use Rattle.std.specs.Prelude.{◌≡◌, ◌≤◌, length};
+ghost use Rattle.splitter.specs.Behind.{header_read};
 
-use crate::piece::box_at;
-use boxes::{Child, Header};
-
-pub(crate) fn behind<'a>(s: &'a [u8], n: usize) -> &'a [u8]
-    ensures { result.now ≡ behind s.now n }
-{
-    if n <= s.len() {
-        return &s[n..];
-    }
-    s
-}
-
-pub(crate) fn behind_sized<'a>(s: &'a [u8], size: usize) -> &'a [u8]
-    ensures { result.now ≡ behind_sized s.now size }
-{
-    match size {
-        4 => behind(s, 4),
-        8 => behind(s, 8),
-        _ => s,
-    }
-}
-
-pub(crate) fn behind_box<'a>(s: &'a [u8], at: usize) -> &'a [u8]
-    ensures { result.now ≡ behind_box s.now at }
-{
-    behind(s, past_box(s, at))
-}
-
-fn past_box(s: &[u8], at: usize) -> usize
-    ensures { result ≡ past_box s.now at }
-{
-    match box_at(s, at) {
-        Child::Refused(e) => at + header_read(s, at),
-        Child::Whole { kind, from, to } => to,
-    }
-}
+use boxes::Header;
 
 // How far the Rust gets with a header before it refuses the box: it reads the size, the type and, where there is one, the eight-byte size.
-fn header_read(s: &[u8], at: usize) -> usize
-    ensures value { result ≡ header_read s.now at }
-    ensures upper_bound { result ≤ length s.now - at }
+#[tactic(auto, unfolding(crate::specs::Behind::header_read, crate::specs::Behind::read_of))]
+pub(crate) fn header_read(s: &[u8]) -> usize
+    ensures value { result ≡ header_read s.now 0 }
+    ensures inside { result ≤ length s.now }
 {
-    let left = boxes::left(s, at);
-    if left < 4 {
-        return 0;
+    match s.len() {
+        0..4 => 0,
+        4..Header::SHORT => 4,
+        Header::LONG.. if endian::loadu32(s, 0) == 1 => Header::LONG,
+        _ => Header::SHORT,
     }
-    if left < Header::SHORT {
-        return 4;
-    }
-    if endian::loadu32(s, at) != 1 {
-        return Header::SHORT;
-    }
-    if left < Header::LONG {
-        return Header::SHORT;
-    }
-    Header::LONG
 }

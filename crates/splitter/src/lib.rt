@@ -3,11 +3,7 @@
 
 mod behind;
 mod count;
-mod front;
-mod piece;
 mod splitter;
 
 pub use count::{Counted, children};
-pub use front::{Array4, FullBox, Sized};
-pub use piece::Piece;
 pub use splitter::BoxSplitter;
