@@ -8,7 +8,6 @@ use Rattle.rules.specs.Doc.Bytes.{number_at}
 use Rattle.rules.specs.Doc.Block.{block_after}
 use Rattle.rules.specs.Doc.Answers.{Answer}
 use Rattle.rules.specs.OverBytes.{total_from, block_of, block_from, answer_of}
-use Rattle.rules.specs.Laws.Entries.{Chose}
 use Rattle.rules.specs.Laws.Gather.{answer_refused}
 use Rattle.rules.specs.Laws.Places.{lies_inside}
 use Rattle.rules.specs.Laws.Totals.{total_is}
@@ -20,28 +19,26 @@ use Rattle.output.specs.Answers.{answer_28, answer_0}
 use Rattle.output.specs.declared.NoBlock.TheVariants.{NoRoom, Refused}
 use Rattle.locations.specs.Told.{location_in, extents_of}
 use Rattle.locations.specs.Located.{extents_count}
-use Rattle.locations.specs.declared.Location.{Location}
+use Rattle.locations.specs.declared.location.Location.{Location}
 use Rattle.join.specs.Told.{total_of, source, lies_by, joined_of, block_by}
 
 -- after the last extent there is none left
-pub extents_end : (iloc : List ℕ) (l : Location) (k : ℕ) → Chose iloc (location_in l) → l.entry.extent_count ≤ k → drop k (extents_of iloc l) ≡ []
-extents_end iloc l k c h =
-    let n : length (extents_of iloc l) ≤ k = omega (arith, extents_count iloc l c) in
-    drop_of_length-le (extents_of iloc l) n
+pub extents_end : (l : Location) (k : ℕ) → l.entry.extent_count ≤ k → drop k (extents_of l) ≡ []
+extents_end l k h = drop_of_length-le (extents_of l) (omega (arith, extents_count l))
 
-module _ (image idat iloc : List ℕ) (l : Location) (out : List ℕ) where
+module _ (image idat : List ℕ) (l : Location) (out : List ℕ) where
   abbrev s : List ℕ
   s = source (location_in l).entry.method image idat
 
   abbrev bytes : List ℕ
-  bytes = joined_of image idat iloc l
+  bytes = joined_of image idat l
 
   abbrev joined_answer : Answer
-  joined_answer = answer_of out (block_by image idat iloc l)
+  joined_answer = answer_of out (block_by image idat l)
 
   -- n is how many bytes the method names, and r what the pass over the extents says
-  module _ {n : ℕ} (len : n ≡ length s) (r : Result ℕ Refusal) (pass : total_of r ≡ total_from (lies_by l n) 0 (extents_of iloc l)) where
-    passed : {q : Result ℕ Refusal} → r ≡ q → total_of q ≡ total_from (lies_by l (length s)) 0 (extents_of iloc l)
+  module _ {n : ℕ} (len : n ≡ length s) (r : Result ℕ Refusal) (pass : total_of r ≡ total_from (lies_by l n) 0 (extents_of l)) where
+    passed : {q : Result ℕ Refusal} → r ≡ q → total_of q ≡ total_from (lies_by l (length s)) 0 (extents_of l)
     passed k = sym (ap total_of k) ∙ rw len at pass
 
     pub block_refused : {e : Refusal} → r ≡ Err e → told (Err (Refused e)) out ≡ joined_answer
@@ -52,7 +49,7 @@ module _ (image idat iloc : List ℕ) (l : Location) (out : List ℕ) where
       size_is : length bytes ≡ t
       size_is =
           let inside = lies_inside (location_in l).entry.method (length s) (location_in l).entry.base in
-          omega (arith, total_is (lies_by l (length s)) s inside 0 t (extents_of iloc l) (passed k))
+          omega (arith, total_is (lies_by l (length s)) s inside 0 t (extents_of l) (passed k))
 
       pub block_25 : t < 4 → told (Err (Refused UnderFour)) out ≡ joined_answer
       unfolding block_from block_of block_after
@@ -62,7 +59,7 @@ module _ (image idat iloc : List ℕ) (l : Location) (out : List ℕ) where
         abbrev block : List ℕ
         block = drop (4 + offset) bytes
 
-        block_by_is : block_by image idat iloc l ≡ (require (leb offset (t - 4)) 26 >>= λ u. fine block)
+        block_by_is : block_by image idat l ≡ (require (leb offset (t - 4)) 26 >>= λ u. fine block)
         unfolding block_from block_of block_after
         block_by_is = rw (← passed k, size_is, le-leb 4 t h, ← f)
 
@@ -73,7 +70,7 @@ module _ (image idat iloc : List ℕ) (l : Location) (out : List ℕ) where
           abbrev need : ℕ
           need = t - 4 - offset
 
-          block_is : block_by image idat iloc l ≡ fine block
+          block_is : block_by image idat l ≡ fine block
           block_is = rw (block_by_is, le-leb offset (t - 4) g)
 
           block_size : length block ≡ need

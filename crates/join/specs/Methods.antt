@@ -11,7 +11,7 @@ use Rattle.rules.specs.Doc.Join.{by_method}
 use Rattle.rules.specs.OverBytes.{chosen_block, item_block, answer_of, refusal}
 use Rattle.rules.specs.Laws.Gather.{answer_refused}
 use Rattle.locations.specs.Told.{location_in}
-use Rattle.locations.specs.declared.Location.{Location}
+use Rattle.locations.specs.declared.location.Location.{Location}
 use Rattle.join.specs.Told.{block_by}
 
 -- ---- Which entry, steps 7 and 8
@@ -31,18 +31,18 @@ module _ (image : List ℕ) (store : Option (List ℕ)) (iloc : List ℕ) (wante
 
 -- ---- Its method, step 9
 
-module _ (image : List ℕ) (store : Option (List ℕ)) (iloc : List ℕ) (l : Location) (out : List ℕ) where
+module _ (image : List ℕ) (store : Option (List ℕ)) (l : Location) (out : List ℕ) where
   abbrev method : ℕ
   method = (location_in l).entry.method
 
   abbrev chosen_answer : Answer
-  chosen_answer = answer_of out (chosen_block image store iloc (location_in l))
+  chosen_answer = answer_of out (chosen_block image store l.body.now (location_in l))
 
-  pub method_0 : method ≡ 0 → (idat : List ℕ) → {a : Answer} → a ≡ answer_of out (block_by image idat iloc l) → a ≡ chosen_answer
+  pub method_0 : method ≡ 0 → (idat : List ℕ) → {a : Answer} → a ≡ answer_of out (block_by image idat l) → a ≡ chosen_answer
   unfolding chosen_block by_method
   method_0 m idat e = rw (eq-eqb method 0 m) (rw (eq-eqb method 0 m) at e)
 
-  pub method_1 : method ≡ 1 → {idat : List ℕ} → store ≡ some idat → {a : Answer} → a ≡ answer_of out (block_by image idat iloc l) → a ≡ chosen_answer
+  pub method_1 : method ≡ 1 → {idat : List ℕ} → store ≡ some idat → {a : Answer} → a ≡ answer_of out (block_by image idat l) → a ≡ chosen_answer
   unfolding chosen_block by_method
   method_1 m h e =
       let z : eqb method 0 ≡ false = rw m in

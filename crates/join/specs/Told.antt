@@ -11,7 +11,7 @@ use Rattle.rules.specs.Results.{outcome, perhaps}
 use Rattle.boxes.specs.Told.{number}
 use Rattle.boxes.specs.declared.refusal.Refusal.{Refusal}
 use Rattle.locations.specs.Told.{location_in, extents_of}
-use Rattle.locations.specs.declared.Location.{Location}
+use Rattle.locations.specs.declared.location.Location.{Location}
 use Rattle.join.specs.declared.place.Part.{Part}
 
 -- of where an extent lies
@@ -43,13 +43,13 @@ abbrev pub lies_by : Location → ℕ → Extent → Outcome Span
 lies_by l n = lies (location_in l).entry.method n (location_in l).entry.base
 
 -- its joined bytes
-abbrev pub joined_of : List ℕ → List ℕ → List ℕ → Location → List ℕ
-joined_of image idat iloc l =
+abbrev pub joined_of : List ℕ → List ℕ → Location → List ℕ
+joined_of image idat l =
     let s = source (location_in l).entry.method image idat in
-    gathered (lies_by l (length s)) s (extents_of iloc l)
+    gathered (lies_by l (length s)) s (extents_of l)
 
 -- its block
-abbrev pub block_by : List ℕ → List ℕ → List ℕ → Location → Outcome (List ℕ)
-block_by image idat iloc l =
+abbrev pub block_by : List ℕ → List ℕ → Location → Outcome (List ℕ)
+block_by image idat l =
     let s = source (location_in l).entry.method image idat in
-    block_from (lies_by l (length s)) s (extents_of iloc l)
+    block_from (lies_by l (length s)) s (extents_of l)

@@ -1,7 +1,6 @@
 // An item's block, or why there is none: the method, step 10, the room.
 ghost use Rattle.std.specs.Prelude.{◌≡◌, length};
 ghost use Rattle.rules.specs.OverBytes.{chosen_block, item_block, answer_of};
-ghost use Rattle.rules.specs.Laws.Entries.{Chose};
 ghost use Rattle.locations.specs.Told.{location_in};
 ghost use Rattle.output.specs.Told.{told};
 ghost use Rattle.join.specs.Told.{store, source, block_by};
@@ -27,20 +26,17 @@ fn source_len(image: &[u8], idat: &[u8], method: u64) -> usize
 fn extract_joined<'a>(
     image: &'a [u8],
     idat: &'a [u8],
-    iloc: &[u8],
-    location: Location,
+    location: &Location,
     out: &mut [u8],
 ) -> Extracted
-    requires { Chose iloc.now (location_in location) }
-    ensures { told result out.new
-        ≡ answer_of out.old (block_by image.now idat.now iloc.now location) }
+    ensures { told result out.new ≡ answer_of out.old (block_by image.now idat.now location.now) }
 {
     let len = source_len(image, idat, location.entry.construction_method);
-    let total = total_size(iloc, location, len)?;
+    let total = total_size(location, len)?;
     if total < 4 {
         return Err(NoBlock::Refused(Refusal::UnderFour));
     }
-    let offset = first_number(image, idat, iloc, location);
+    let offset = first_number(image, idat, location);
     if total - 4 < offset {
         return Err(NoBlock::Refused(Refusal::HeaderOffset));
     }
@@ -48,7 +44,7 @@ fn extract_joined<'a>(
     if out.len() < need {
         return Err(NoBlock::NoRoom(need));
     }
-    gather(image, idat, iloc, location, 4 + offset, out);
+    gather(image, idat, location, 4 + offset, out);
     Ok(need)
 }
 
@@ -57,19 +53,17 @@ fn extract_joined<'a>(
 fn extract_chosen<'a>(
     image: &'a [u8],
     idat: Option<&'a [u8]>,
-    iloc: &[u8],
-    location: Location,
+    location: &Location,
     out: &mut [u8],
 ) -> Extracted
-    requires { Chose iloc.now (location_in location) }
-    ensures { told result out.new
-        ≡ answer_of out.old (chosen_block image.now (store idat.entry) iloc.now (location_in location)) }
+    ensures { told result out.new ≡ answer_of out.old
+        (chosen_block image.now (store idat.entry) location.now.body.now (location_in location.now)) }
 {
     match location.entry.construction_method {
-        0 => extract_joined(image, &[], iloc, location, out),
+        0 => extract_joined(image, &[], location, out),
         1 => {
             let idat = idat.ok_or(Refusal::NoIdat)?;
-            extract_joined(image, idat, iloc, location, out)
+            extract_joined(image, idat, location, out)
         }
         2 => Err(NoBlock::Refused(Refusal::ByItemOffset)),
         3..=15 => Err(NoBlock::Refused(Refusal::UnknownMethod)),
@@ -79,7 +73,7 @@ fn extract_chosen<'a>(
 }
 
 // The block of the item goes to the front of `out`. For steps 7 and 8, `locations` is asked.
-#[tactic(auto, using(crate::specs::Methods::item_refused, crate::specs::Methods::item_found, locations::specs::Located::found_chose))]
+#[tactic(auto, using(crate::specs::Methods::item_refused, crate::specs::Methods::item_found))]
 pub fn extract_item<'a>(
     image: &'a [u8],
     idat: Option<&'a [u8]>,
@@ -90,5 +84,5 @@ pub fn extract_item<'a>(
     ensures { told result out.new ≡ answer_of out.old (item_block image.now (store idat.entry) iloc.now item_id) }
 {
     let location = locations::parse_iloc(iloc, item_id)?;
-    extract_chosen(image, idat, iloc, location, out)
+    extract_chosen(image, idat, &location, out)
 }

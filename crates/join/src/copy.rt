@@ -2,8 +2,6 @@
 ghost use Rattle.std.specs.Prelude.{◌≡◌, drop};
 ghost use Rattle.std.proofs.lemmas.List.Edits.{sets};
 ghost use Rattle.rules.specs.Doc.Bytes.{number_at};
-ghost use Rattle.rules.specs.Laws.Entries.{Chose};
-ghost use Rattle.locations.specs.Told.{location_in};
 ghost use Rattle.join.specs.Told.{joined_of};
 
 use crate::place::extent_part;
@@ -14,14 +12,12 @@ use output::put;
 pub(crate) fn gather<'a>(
     image: &'a [u8],
     idat: &'a [u8],
-    iloc: &[u8],
-    location: Location,
+    location: &Location,
     skip: usize,
     out: &mut [u8],
 )
-    requires { Chose iloc.now (location_in location) }
     ensures { out.new
-        ≡ sets out.old 0 (drop skip (joined_of image.now idat.now iloc.now location)) }
+        ≡ sets out.old 0 (drop skip (joined_of image.now idat.now location.now)) }
 {
     let method = location.entry.construction_method;
     let base = location.entry.base_offset;
@@ -31,7 +27,7 @@ pub(crate) fn gather<'a>(
         if out.len() <= at {
             return;
         }
-        let x = locations::read_extent(iloc, location, k);
+        let x = location.read_extent(k);
         let part = extent_part(image, idat, method, base, x);
         at = put(part, left, out, at);
         left = left.saturating_sub(part.len());
@@ -39,16 +35,10 @@ pub(crate) fn gather<'a>(
 }
 
 // The number in the first four joined bytes, which may lie in several extents.
-pub(crate) fn first_number<'a>(
-    image: &'a [u8],
-    idat: &'a [u8],
-    iloc: &[u8],
-    location: Location,
-) -> usize
-    requires { Chose iloc.now (location_in location) }
-    ensures { result ≡ number_at (joined_of image.now idat.now iloc.now location) 0 4 }
+pub(crate) fn first_number<'a>(image: &'a [u8], idat: &'a [u8], location: &Location) -> usize
+    ensures { result ≡ number_at (joined_of image.now idat.now location.now) 0 4 }
 {
     let mut four = [0u8; 4];
-    gather(image, idat, iloc, location, 0, &mut four);
+    gather(image, idat, location, 0, &mut four);
     endian::loadu32(&four, 0) as usize
 }

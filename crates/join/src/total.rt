@@ -1,8 +1,7 @@
 // Step 9's pass over all extents: each is checked, and the total with it. Nothing is written.
 ghost use Rattle.std.specs.Prelude.{◌≡◌, ◌≤◌};
 ghost use Rattle.rules.specs.OverBytes.{added, total_from};
-ghost use Rattle.rules.specs.Laws.Entries.{Chose};
-ghost use Rattle.locations.specs.Told.{location_in, extents_of};
+ghost use Rattle.locations.specs.Told.{extents_of};
 ghost use Rattle.join.specs.Told.{place_of, total_of, lies_by};
 
 use crate::place::{Part, extent_place};
@@ -26,15 +25,14 @@ fn with_part(total: usize, place: Result<Part, Refusal>) -> Result<usize, Refusa
 }
 
 // The total of a location's extents in the `len` bytes that its method names.
-pub(crate) fn total_size(iloc: &[u8], location: Location, len: usize) -> Result<usize, Refusal>
-    requires { Chose iloc.now (location_in location) }
-    ensures { total_of result ≡ total_from (lies_by location len) 0 (extents_of iloc.now location) }
+pub(crate) fn total_size(location: &Location, len: usize) -> Result<usize, Refusal>
+    ensures { total_of result ≡ total_from (lies_by location.now len) 0 (extents_of location.now) }
 {
     let method = location.entry.construction_method;
     let base = location.entry.base_offset;
     let mut total = 0;
     for k in 0..location.entry.extent_count {
-        let x = locations::read_extent(iloc, location, k);
+        let x = location.read_extent(k);
         total = with_part(total, extent_place(method, len, base, x))?;
     }
     Ok(total)

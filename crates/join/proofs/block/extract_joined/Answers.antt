@@ -6,18 +6,18 @@ use Rattle.join.proofs.block.extract_joined.Goals as goal
 
 pub returns-then-total-lt4 : goal.returns-then-total-lt4
 returns-then-total-lt4 c =
-    block_25 _ _ _ _ _ c.source_len-len.ensures _ c.total_size.ensures c.in_ok-total.was c.if-total-lt4.true
+    block_25 _ _ c.args.location.now _ c.source_len-len.ensures _ c.total_size.ensures c.in_ok-total.was c.if-total-lt4.true
 
 pub returns-then-total-offset : goal.returns-then-total-offset
 returns-then-total-offset c =
-    block_26 _ _ _ _ _ c.source_len-len.ensures _ c.total_size.ensures c.in_ok-total.was c.first_number-offset.ensures (omega arith) (omega arith)
+    block_26 _ _ c.args.location.now _ c.source_len-len.ensures _ c.total_size.ensures c.in_ok-total.was c.first_number-offset.ensures (omega arith) (omega arith)
 
 pub returns-then-out-need : goal.returns-then-out-need
 returns-then-out-need c =
-    block_28 _ _ _ _ _ c.source_len-len.ensures _ c.total_size.ensures c.in_ok-total.was c.first_number-offset.ensures (omega arith) (omega arith)
+    block_28 _ _ c.args.location.now _ c.source_len-len.ensures _ c.total_size.ensures c.in_ok-total.was c.first_number-offset.ensures (omega arith) (omega arith)
     (omega arith)
 
 pub returns : goal.returns
 returns c =
-    block_0 _ _ _ _ _ c.source_len-len.ensures _ c.total_size.ensures c.in_ok-total.was c.first_number-offset.ensures (omega arith) (omega arith)
+    block_0 _ _ c.args.location.now _ c.source_len-len.ensures _ c.total_size.ensures c.in_ok-total.was c.first_number-offset.ensures (omega arith) (omega arith)
     (omega arith) c.gather.ensures

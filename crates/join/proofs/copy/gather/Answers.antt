@@ -12,9 +12,6 @@ returns-then-out-at c =
     let l = c.loop-k in
     gather_full _ _ _ _ l.left _ l.invariant.1 c.if-out-at.true
 
-pub read_extent-x-requires : goal.read_extent-x-requires
-read_extent-x-requires c = record { chose = c.requires; k_bound = c.loop-k-test.true }
-
 pub loop-k-preserved : goal.loop-k-preserved
 loop-k-preserved c =
     let w = c.put-at in
@@ -25,4 +22,4 @@ loop-k-preserved c =
 
 pub returns : goal.returns
 returns c =
-    gather_done _ _ _ _ c.loop-k.left _ c.loop-k.invariant.1 (extents_end _ _ _ c.requires c.loop-k-test.false)
+    gather_done _ _ _ _ c.loop-k.left _ c.loop-k.invariant.1 (extents_end c.args.location.now _ c.loop-k-test.false)

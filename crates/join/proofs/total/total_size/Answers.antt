@@ -8,9 +8,6 @@ use Rattle.join.proofs.total.total_size.Goals as goal
 pub loop-k-init : goal.loop-k-init
 loop-k-init c = (refl, omega arith)
 
-pub read_extent-x-requires : goal.read_extent-x-requires
-read_extent-x-requires c = record { chose = c.requires; k_bound = c.loop-k-test.true }
-
 pub with_part-requires : goal.with_part-requires
 with_part-requires c = c.loop-k.invariant.1
 
@@ -26,4 +23,4 @@ loop-k-preserved c =
     (total_next _ _ c.loop-k.invariant.0 c.read_extent-x.ensures c.extent_place.ensures w, added_below _ _ w)
 
 pub returns : goal.returns
-returns c = total_done _ _ c.loop-k.invariant.0 (extents_end _ _ _ c.requires c.loop-k-test.false)
+returns c = total_done _ _ c.loop-k.invariant.0 (extents_end c.args.location.now _ c.loop-k-test.false)

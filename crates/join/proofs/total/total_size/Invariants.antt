@@ -9,7 +9,7 @@ use Rattle.join.proofs.total.total_size.Given as goal
 
 abbrev pub invariant-loop-k : goal.invariant-loop-k
 invariant-loop-k l =
-    (total_from (lies_by l.location l.len) l.total (drop l.k (extents_of l.iloc l.location)) ≡ total_from (lies_by l.location l.len) 0 (extents_of l.iloc l.location))
+    (total_from (lies_by l.location l.len) l.total (drop l.k (extents_of l.location)) ≡ total_from (lies_by l.location l.len) 0 (extents_of l.location))
     × (l.total ≤ 65535)
 
 abbrev pub decreases-loop-k : goal.decreases-loop-k
