@@ -56,6 +56,7 @@ pub(crate) struct Kept {
 }
 
 // After the children: no wanted id is asked first, then no `iloc`.
+#[tactic(auto, unfolding(crate::specs::Children::afterwards))]
 fn after(met: Met) -> Result<Kept, Refusal>
     ensures { kept_of result ≡ afterwards (state_of met) }
 {
@@ -67,6 +68,7 @@ fn after(met: Met) -> Result<Kept, Refusal>
 }
 
 // The version is judged before any child is looked at.
+#[tactic(auto, using(crate::specs::Children::meta_cut, crate::specs::Children::meta_version, crate::specs::Children::meta_children))]
 pub(crate) fn parse_meta(body: &[u8]) -> Result<Kept, Refusal>
     ensures { kept_of result ≡ kept body.now }
 {

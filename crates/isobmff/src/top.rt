@@ -7,6 +7,7 @@ use crate::span::Span;
 use boxes::{FTYP, META, Refusal};
 
 // Where a body of the file ends, if the image holds all of it.
+#[tactic(auto, using(crate::specs::Top::to_cut, crate::specs::Top::to_whole))]
 fn read_file_level_box(image: &[u8], from: usize, size: u64) -> Result<usize, Refusal>
     requires { from ≤ length image.now }
     ensures { body_of result ≡ whole_to (length image.now) from size }
@@ -25,6 +26,7 @@ enum Next {
 }
 
 // An `ftyp`: its body is tested.
+#[tactic(auto, unfolding(crate::specs::Top::ftyp_over), using(crate::specs::Top::to_inside))]
 fn read_ftyp(image: &[u8], from: usize, size: u64) -> Result<Next, Refusal>
     requires { from ≤ length image.now }
     ensures { next_of result ≡ ftyp_over image.now from size }
@@ -38,6 +40,7 @@ fn read_ftyp(image: &[u8], from: usize, size: u64) -> Result<Next, Refusal>
 }
 
 // The first `meta`: its body is looked at only after an `ftyp`.
+#[tactic(auto, unfolding(crate::specs::Top::meta_over))]
 fn read_meta(image: &[u8], from: usize, size: u64, ftyp_checked: bool) -> Result<Next, Refusal>
     requires { from ≤ length image.now }
     ensures { next_of result ≡ meta_over (length image.now) from size ftyp_checked }
@@ -50,6 +53,7 @@ fn read_meta(image: &[u8], from: usize, size: u64, ftyp_checked: bool) -> Result
 }
 
 // One box of the file. A skipped one may lead past the end.
+#[tactic(auto, unfolding(crate::specs::Top::box_over), using(crate::specs::Top::over_ftyp, crate::specs::Top::over_meta, crate::specs::Top::over_other, rules::specs::Laws::Headers::file_begins, rules::specs::Laws::Headers::file_small))]
 fn file_level_box(image: &[u8], at: usize, ftyp_checked: bool) -> Result<Next, Refusal>
     ensures { next_of result ≡ box_over image.now at ftyp_checked }
 {

@@ -1,19 +1,16 @@
--- The definition reads the version, asks that it is 0, and goes on from what the children left: each return is one of these steps with what the
--- callee said of it (Children).
-use Rattle.std.proofs.Common.{arith}
-use Rattle.isobmff.specs.Children.{meta_cut, meta_version, meta_children}
+-- What the children left is what the definition goes on from (`meta_children`).
+use mathlib.Core.Path.{◌∙◌}
+use Rattle.std.proofs.Common.{rules}
+use Rattle.isobmff.specs.Children.{meta_children}
 use Rattle.isobmff.proofs.meta.parse_meta.Goals as goal
 
-pub returns-in-Refused : goal.returns-in-Refused
-returns-in-Refused c = meta_cut _ (rw c.in-Refused.is at c.fullbox_header.ensures)
+pub returns-in_err-children-in-0 : goal.returns-in_err-children-in-0
+returns-in_err-children-in-0 c =
+    let v = rw c.in_ok-fullbox_header.was at c.fullbox_header.ensures in
+    let o = rw c.in_err-children-in-0.was at (meta_children _ v c.in-0.is c.children.ensures) in
+    search rules
 
-pub returns-in-Refused-children : goal.returns-in-Refused-children
-returns-in-Refused-children c = rw c.in-Refused-children.is at (meta_children _ (rw c.in-Got.is at c.fullbox_header.ensures) c.in-0.is c.children.ensures)
-
-pub returns-in-Read : goal.returns-in-Read
-returns-in-Read c =
-    let all = rw c.in-Read.is at (meta_children _ (rw c.in-Got.is at c.fullbox_header.ensures) c.in-0.is c.children.ensures) in
-    rw all at c.after.ensures
-
-pub returns-in_default : goal.returns-in_default
-returns-in_default c = meta_version _ (rw c.in-Got.is at c.fullbox_header.ensures) (λ e. omega arith)
+pub returns-in_ok-children-in-0 : goal.returns-in_ok-children-in-0
+returns-in_ok-children-in-0 c =
+    let v = rw c.in_ok-fullbox_header.was at c.fullbox_header.ensures in
+    c.after.ensures ∙ rw c.in_ok-children-in-0.was at (meta_children _ v c.in-0.is c.children.ensures)
