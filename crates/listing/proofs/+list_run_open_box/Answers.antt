@@ -14,6 +14,7 @@ use Rattle.listing.proofs.+list_run_open_box.Goals as goal
 
 -- ---- A run of boxes
 
+-- the fault is made of the refusal by a closure, so what it is has to be found (`q`)
 pub list_run-returns-in_err-found : goal.list_run-returns-in_err-found
 list_run-returns-in_err-found t c =
     let p = err_from_is_err_and c.from_residual.result c.from_residual.ensures.1 in
@@ -47,15 +48,15 @@ list_run-loop-at-preserved t c =
     let left = went_on c.loop-at.invariant.2 _ _ turn c.requires.from_bound c.put_line-after_line.ensures c.open_box.ensures c.in_ok-so_far.was in
     (grind (arith, common_steps), kept, left)
 
+pub list_run-returns : goal.list_run-returns
+list_run-returns t c = search (left_finished, run_done)
+
 -- ---- One box
 
 pub open_box-list_run-requires : goal.open_box-list_run-requires
 open_box-list_run-requires t c =
     let n = length-take-le c.args.found.child.to c.args.found.s.now c.args.found.inside in
     (grind (arith, children_ahead), (omega (arith, c.requires.levels_le_deepest), grind (arith, box_children)))
-
-pub list_run-returns : goal.list_run-returns
-list_run-returns t c = search (left_finished, run_done)
 
 pub open_box-returns-then-levels-eq0 : goal.open_box-returns-then-levels-eq0
 open_box-returns-then-levels-eq0 t c = search (rules, lines_finished, box_deepest)
