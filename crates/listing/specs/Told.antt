@@ -1,30 +1,30 @@
 -- What the answers say, in document 01's words.
-use Rattle.std.specs.Prelude.{ℕ}
-use Rattle.std.proofs.Math.Option.{Option, none, some}
-use Rattle.rules.specs.Doc.Outcomes.{Outcome, fine, refused}
+use Rattle.std.specs.Prelude.{ℕ, Result, Ok, Err, Option}
+use Rattle.std.proofs.Math.Option as math
+use Rattle.rules.specs.Doc.Outcomes.{Outcome}
 use Rattle.rules.specs.Doc.Headers.{Box, box_of}
 use Rattle.rules.specs.Doc.Listing.{Listing, finished, fault}
+use Rattle.rules.specs.Results.{outcome, perhaps}
 use Rattle.boxes.specs.Told.{number}
-use Rattle.listing.specs.declared.Found.{Found}
-use Rattle.listing.specs.declared.opening.Inner.{Inner}
-use Rattle.listing.specs.declared.opening.Inner.TheVariants as i
-use Rattle.listing.specs.declared.Listed.{Listed}
-use Rattle.listing.specs.declared.Listed.TheVariants as l
+use Rattle.boxes.specs.declared.refusal.Refusal.{Refusal}
+use Rattle.listing.specs.declared.Fault.{Fault}
+use Rattle.listing.specs.declared.found.Found.{Found}
 
 abbrev pub box_in : Found → Box
-box_in b = box_of b.start b.kind b.from b.to
+box_in b = box_of b.start b.child.kind b.child.from b.child.to
+
+abbrev pub found_of : Result Found Refusal → Outcome Box
+found_of = outcome number box_in
 
 -- where children start
-abbrev pub starts : Inner → Outcome (Option ℕ)
-starts i.Leaf = fine none
-starts (i.Children from) = fine (some from)
-starts (i.Refused e) = refused (number e)
+abbrev pub starts : Result (Option ℕ) Refusal → Outcome (math.Option ℕ)
+starts = outcome number (perhaps (λ v. v))
 
 -- how a listing ended, and how much text was written
-abbrev pub told : Listed → Listing
-told (l.Finished n) = finished
-told (l.Fault n at e) = fault at (number e)
+abbrev pub told : Result ℕ Fault → Listing
+told (Ok n) = finished
+told (Err f) = fault f.at (number f.why)
 
-abbrev pub text_end : Listed → ℕ
-text_end (l.Finished n) = n
-text_end (l.Fault n at e) = n
+abbrev pub text_end : Result ℕ Fault → ℕ
+text_end (Ok n) = n
+text_end (Err f) = f.written

@@ -1,8 +1,8 @@
 // The listing of an image's boxes, as text in a lent buffer: one function lists a run of boxes, the other opens one box, and they call each other.
 #![tactic(auto)]
 
+mod found;
 mod line;
-mod opening;
 
 ghost use Rattle.std.specs.Prelude.{◌≡◌, ◌++◌, ◌+◌, ◌^◌, ◌≤◌, ◌<◌, length, drop};
 ghost use Rattle.rules.specs.Doc.Listing.{deepest, open_box, list_run, listing, printed};
@@ -10,9 +10,9 @@ ghost use Rattle.rules.specs.Laws.Listing.{lines_text};
 ghost use Rattle.listing.specs.Told.{box_in};
 ghost use Rattle.listing.specs.Lines.{Lines};
 
-use boxes::{Child, Header, Refusal};
+use boxes::Refusal;
+use found::Found;
 use line::{put_last, put_line};
-use opening::{Inner, opening};
 
 // The longest image that is listed.
 pub const LONGEST: usize = 65536;
@@ -23,97 +23,67 @@ pub const LONGEST_TEXT: usize = 7 * LONGEST + 19;
 // Boxes at this depth aren't opened.
 const DEEPEST: usize = 8;
 
-// A box: where it starts, its type, and where its body is.
+// How much text was written, past the end of the buffer too, before a box that couldn't be read or opened; where it starts, and why.
 #[derive(Clone, Copy)]
-pub(crate) struct Found {
-    start: usize,
-    kind: u32,
-    from: usize,
-    to: usize,
-}
-
-// How much text is written, past the end of the buffer too; and, at a fault, the start of the box that couldn't be read or opened, and why.
-#[derive(Clone, Copy)]
-pub(crate) enum Listed {
-    Finished(usize),
-    Fault {
-        written: usize,
-        at: usize,
-        why: Refusal,
-    },
+struct Fault {
+    written: usize,
+    at: usize,
+    why: Refusal,
 }
 
 // The boxes from a position to the end of `s`, with so many levels under them that may be opened. So much text is written already.
+// The answer is how much is written then, past the end of the buffer too.
 #[cycle(list_run_open_box)]
-fn list_run(s: &[u8], from: usize, levels: usize, out: &mut [u8], written: usize) -> Listed
+fn list_run(
+    s: &[u8],
+    from: usize,
+    levels: usize,
+    out: &mut [u8],
+    written: usize,
+) -> Result<usize, Fault>
     requires levels_le_deepest { levels ≤ deepest }
     requires from_bound { written + length (lines_text (list_run levels s.now from)) < 2 ^ 64 }
     ensures { Lines (list_run levels s.now from) written out.old result out.new }
 {
     let mut at = from;
     let mut so_far = written;
+    // A turn goes over a box, however long: no index is counted.
     while at < s.len() {
-        match boxes::child_box(s, Header::read(s, at)) {
-            Child::Refused(e) => {
-                return Listed::Fault {
-                    written: so_far,
-                    at: at,
-                    why: e,
-                };
-            }
-            Child::Whole { kind, from, to } => {
-                let found = Found {
-                    start: at,
-                    kind: kind,
-                    from: from,
-                    to: to,
-                };
-                let after_line = put_line(DEEPEST - levels, found, out, so_far);
-                match open_box(s, found, levels, out, after_line) {
-                    Listed::Fault { written, at, why } => {
-                        return Listed::Fault {
-                            written: written,
-                            at: at,
-                            why: why,
-                        };
-                    }
-                    Listed::Finished(after_box) => {
-                        so_far = after_box;
-                        at = to;
-                    }
-                }
-            }
-        }
+        let found = Found::at(s, at).map_err(|why| Fault {
+            written: so_far,
+            at,
+            why,
+        })?;
+        let after_line = put_line(DEEPEST - levels, found, out, so_far);
+        so_far = open_box(found, levels, out, after_line)?;
+        at = found.child.to;
     }
-    Listed::Finished(so_far)
+    Ok(so_far)
 }
 
 // What stands in one box. The bytes around its children end where it does, so that places still count from the start of the image.
 #[cycle(list_run_open_box)]
-fn open_box(s: &[u8], found: Found, levels: usize, out: &mut [u8], written: usize) -> Listed
-    requires from_le_to { (found.from ≤ found.to) × (found.to ≤ length s.now) }
+fn open_box(found: Found, levels: usize, out: &mut [u8], written: usize) -> Result<usize, Fault>
     requires levels_le_deepest { levels ≤ deepest }
-    requires found_bound { written + length (lines_text (open_box levels s.now (box_in found))) < 2 ^ 64 }
-    ensures { Lines (open_box levels s.now (box_in found)) written out.old result out.new }
+    requires found_bound { written + length (lines_text (open_box levels found.s.now (box_in found))) < 2 ^ 64 }
+    ensures { Lines (open_box levels found.entry.s.now (box_in found.entry)) written out.old result out.new }
 {
     if levels == 0 {
-        return Listed::Finished(written);
+        return Ok(written);
     }
-    match opening(s, found) {
-        Inner::Leaf => Listed::Finished(written),
-        Inner::Refused(e) => Listed::Fault {
-            written: written,
+    match found.opening() {
+        Err(why) => Err(Fault {
+            written,
             at: found.start,
-            why: e,
-        },
-        Inner::Children(from) => {
-            let to = found.to;
-            list_run(&s[..to], from, levels - 1, out, written)
-        }
+            why,
+        }),
+        Ok(None) => Ok(written),
+        Ok(Some(from)) => list_run(&found.s[..found.child.to], from, levels - 1, out, written),
     }
 }
 
 // The listing of an image goes to the front of `out`, as much of it as there is room for. The answer is the length of all of it.
+#[tactic(auto, using(crate::specs::Whole::room_long, crate::specs::Whole::room_lines))]
 pub fn list_boxes(image: &[u8], out: &mut [u8]) -> usize
     ensures value { result ≡ length (listing image.now) }
     ensures out_after { out.new ≡ printed (listing image.now) out.old }
@@ -122,12 +92,13 @@ pub fn list_boxes(image: &[u8], out: &mut [u8]) -> usize
         return put_last(LONGEST, Refusal::ListingTooLong.number() as usize, out, 0);
     }
     match list_run(image, 0, DEEPEST, out, 0) {
-        Listed::Finished(written) => put_last(image.len(), 0, out, written),
-        Listed::Fault { written, at, why } => put_last(at, why.number() as usize, out, written),
+        Ok(written) => put_last(image.len(), 0, out, written),
+        Err(Fault { written, at, why }) => put_last(at, why.number() as usize, out, written),
     }
 }
 
 // The same with a buffer that is long enough for every image: nothing is ever cut.
+#[tactic(auto, using(rules::specs::Laws::ListingLength::always_room))]
 pub fn list_all(image: &[u8], out: &mut [u8; LONGEST_TEXT]) -> usize
     ensures value { result ≡ length (listing image.now) }
     ensures out_after { out.new ≡ listing image.now ++ drop (length (listing image.now)) out.old }

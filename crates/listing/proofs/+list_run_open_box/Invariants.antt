@@ -12,7 +12,7 @@ abbrev pub decreases-list_run : goal.decreases-list_run
 decreases-list_run l = 2 * (length l.s.now - l.from)
 
 abbrev pub decreases-open_box : goal.decreases-open_box
-decreases-open_box l = 2 * (l.found.to - l.found.from) + 1
+decreases-open_box l = 2 * (l.found.child.to - l.found.child.from) + 1
 
 abbrev pub invariant-list_run-loop-at : goal.invariant-list_run-loop-at
 invariant-list_run-loop-at l =

@@ -1,48 +1,25 @@
--- The listing is the lines and behind them the last line, which goes by how the lines ended, and that is what `list_run` answers. An image that is
--- too long has the last line alone.
-use native.Mathlib.Omega.{arith}
-use Rattle.rules.specs.Doc.Listing.{text_of}
-use Rattle.text.specs.Wrote.{from_front}
-use Rattle.listing.specs.Whole.{too_long, room_listing, room_lines, room_last, whole}
+-- The listing is the lines and behind them the last line, which goes by how the lines ended, and that is what `list_run` answers.
+use Rattle.listing.specs.Whole.{whole_long, room_finished, room_fault, whole_finished, whole_fault}
+use Rattle.std.proofs.Common.{rules}
 use Rattle.listing.proofs.list_boxes.Goals as goal
-
-pub put_last-requires : goal.put_last-requires
-put_last-requires c =
-    let image = c.args.image.now in
-    rw (c.number.ensures, ← too_long image (omega (arith, c.if-image-gt-LONGEST.true))) (room_listing image)
 
 pub returns-then-image-gt-LONGEST : goal.returns-then-image-gt-LONGEST
 returns-then-image-gt-LONGEST c =
-    let long = too_long c.args.image.now (omega (arith, c.if-image-gt-LONGEST.true)) in
-    let told = rw (c.number.ensures, ← long) at (from_front c.put_last.ensures) in
-    record { value = told.0; out_after = told.1 }
+    let w = whole_long c.args.image.now (search rules) (rw c.number.ensures at c.put_last.ensures) in
+    record { value = w.0; out_after = w.1 }
 
-pub list_run-requires : goal.list_run-requires
-list_run-requires c = record { levels_le_deepest = omega arith; from_bound = room_lines c.args.image.now c.if-image-gt-LONGEST.false }
+pub put_last-requires-in-Ok : goal.put_last-requires-in-Ok
+put_last-requires-in-Ok c = search room_finished
 
-pub put_last-requires-in-Finished : goal.put_last-requires-in-Finished
-unfolding text_of
-put_last-requires-in-Finished c =
-    let lines = rw c.in-Finished.is at c.list_run.ensures in
-    room_last c.args.image.now c.if-image-gt-LONGEST.false lines
+pub put_last-requires-in-Err : goal.put_last-requires-in-Err
+put_last-requires-in-Err c = rw c.number-in-Err.ensures (search room_fault)
 
-pub put_last-requires-in-Fault : goal.put_last-requires-in-Fault
-unfolding text_of
-put_last-requires-in-Fault c =
-    let lines = rw c.in-Fault.is at c.list_run.ensures in
-    rw c.number-in-Fault.ensures (room_last c.args.image.now c.if-image-gt-LONGEST.false lines)
+pub returns-in-Ok : goal.returns-in-Ok
+returns-in-Ok c =
+    let w = whole_finished _ c.if-image-gt-LONGEST.false c.list_run.ensures c.in-Ok.is c.put_last-in-Ok.ensures in
+    record { value = w.0; out_after = w.1 }
 
-pub returns-in-Finished : goal.returns-in-Finished
-unfolding text_of
-returns-in-Finished c =
-    let lines = rw c.in-Finished.is at c.list_run.ensures in
-    let told = whole c.args.image.now c.if-image-gt-LONGEST.false lines c.put_last-in-Finished.ensures in
-    record { value = told.0; out_after = told.1 }
-
-pub returns-in-Fault : goal.returns-in-Fault
-unfolding text_of
-returns-in-Fault c =
-    let lines = rw c.in-Fault.is at c.list_run.ensures in
-    let last = rw c.number-in-Fault.ensures at c.put_last-in-Fault.ensures in
-    let told = whole c.args.image.now c.if-image-gt-LONGEST.false lines last in
-    record { value = told.0; out_after = told.1 }
+pub returns-in-Err : goal.returns-in-Err
+returns-in-Err c =
+    let w = whole_fault _ c.if-image-gt-LONGEST.false c.list_run.ensures c.in-Err.is (rw c.number-in-Err.ensures at c.put_last-in-Err.ensures) in
+    record { value = w.0; out_after = w.1 }
