@@ -7,10 +7,10 @@ ghost use Rattle.intake.specs.Within.{Within};
 
 use intake_line::LONGEST_BLOCK;
 use std::env::{Env, FillError};
-use std::fmt::Write as _;
+use std::fmt::InlineText;
 use std::fs::Files;
 use std::io::{Read, Write};
-use std::{fmt, fs, io, str};
+use std::{fs, io, str};
 use streams::read_full;
 
 // The longest image that is read.
@@ -28,58 +28,21 @@ const ENAMETOOLONG: i32 = 36;
 // Longer than what the system says of any error.
 const LONGEST_REASON: usize = 256;
 
-// Why a file was not read, in the system's words alone: `Display` puts their number behind them, ` (os error 2)`.
-#[derive(Drop)]
-struct Said {
-    bytes: [u8; LONGEST_REASON],
-    len: usize,
-    has_ended: bool,
-}
-
-impl Said {
-    fn reason(&self) -> &[u8] {
-        let n = if self.has_ended && self.len > 0 {
-            self.len - 1
-        } else {
-            self.len
-        };
-        let bytes = &self.bytes[..];
-        if n <= bytes.len() { &bytes[..n] } else { bytes }
-    }
-}
-
-impl fmt::Write for Said {
-    fn write_str(&mut self, text: &str) -> fmt::Result {
-        for b in text.as_bytes().iter() {
-            if *b == b'(' {
-                self.has_ended = true;
-            }
-            let len = self.len;
-            if !self.has_ended && len < LONGEST_REASON {
-                self.bytes[len] = *b;
-                self.len = len + 1;
-            }
-        }
-        Ok(())
-    }
-}
-
 fn say_longer<E: Write>(name: &[u8], errors: &mut E) -> io::Result<()> {
     errors.write_all(name)?;
     writeln!(errors, ": longer than {LONGEST} bytes")
 }
 
+// Says why a file was not read, in the system's words alone: `Display` puts their number behind them, ` (os error 2)`.
 fn say_failed<E: Write>(name: &[u8], error: io::Error, errors: &mut E) -> io::Result<()> {
-    let mut said = Said {
-        bytes: [0; LONGEST_REASON],
-        len: 0,
-        has_ended: false,
+    let text = InlineText::<LONGEST_REASON>::of(error);
+    let text = text.as_str();
+    let reason = match text.split_once(" (") {
+        Some((words, _)) => words,
+        None => text,
     };
-    let _ = said.write(error);
     errors.write_all(name)?;
-    errors.write_all(b": ")?;
-    errors.write_all(said.reason())?;
-    errors.write_all(b"\n")
+    writeln!(errors, ": {reason}")
 }
 
 // Reads to the end of the file, which has to come before the end of the buffer, and answers how many bytes it has. Why a file is not read is said; what
