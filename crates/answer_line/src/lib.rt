@@ -2,9 +2,9 @@
 // is room for, and answers the place behind the last byte.
 #![tactic(auto)]
 
-ghost use Rattle.std.specs.Prelude.{◌≡◌, ◌%◌, IsTrue, length, take};
+ghost use Rattle.std.specs.Prelude.{◌≡◌, IsTrue, length, take};
 ghost use Rattle.std.specs.Io.KnownBytes.{Appends};
-ghost use Rattle.rules.specs.Doc.Text.{digit, hex};
+ghost use Rattle.rules.specs.Doc.Text.{hex};
 ghost use Rattle.rules.specs.Doc.Listing.{printed};
 ghost use Rattle.output.specs.Told.{told};
 ghost use Rattle.output.specs.Copied.{Copied};
@@ -13,33 +13,25 @@ ghost use Rattle.answer_line.specs.Line.{out_text, kind_text, answer_text};
 use output::{Extracted, put};
 use std::io::Write;
 use streams::write_all;
-
-// The digit of the byte's lower half.
-fn digit(b: u8) -> u8
-    ensures { result ≡ digit (b % 16) }
-{
-    let d = b % 16;
-    if d < 10 { 48 + d } else { 87 + d }
-}
+use text::digit;
 
 fn put_pair(b: u8, line: &mut [u8], at: usize) -> usize
     ensures { Copied (hex 2 b) at line.old result line.new }
 {
-    put(&[digit(b / 16), digit(b)], 0, line, at)
+    let pair = [digit(usize::from(b / 16)), digit(usize::from(b % 16))];
+    put(&pair, 0, line, at)
 }
 
 // Two digits a byte, and `-` where there is none.
 fn put_out(out: &[u8], line: &mut [u8], at: usize) -> usize
     ensures { Copied (out_text out.now) at line.old result line.new }
 {
-    if out.len() == 0 {
+    if out.is_empty() {
         return put(b"-", 0, line, at);
     }
     let mut end = at;
-    let mut i: usize = 0;
-    while i < out.len() {
-        end = put_pair(out[i], line, end);
-        i += 1;
+    for b in out {
+        end = put_pair(*b, line, end);
     }
     end
 }
@@ -48,10 +40,8 @@ fn put_kind(word: &[u8], holds: bool, line: &mut [u8], at: usize) -> usize
     ensures { Copied (kind_text word.now holds) at line.old result line.new }
 {
     let at = put(word, 0, line, at);
-    if holds {
-        return put(b"1 out=", 0, line, at);
-    }
-    put(b"0 out=", 0, line, at)
+    let said = if holds { b"1 out=" } else { b"0 out=" };
+    put(said, 0, line, at)
 }
 
 fn of_answer(answer: Extracted, word: &[u8], holds: bool, out: &[u8], line: &mut [u8]) -> usize
@@ -64,6 +54,7 @@ fn of_answer(answer: Extracted, word: &[u8], holds: bool, out: &[u8], line: &mut
 }
 
 // The line to a writer, made in `line`; the answer is whether all of it was written.
+#[tactic(auto, using(crate::specs::Parts::copied_front))]
 pub fn print_line<W: Write>(
     answer: Extracted,
     word: &[u8],

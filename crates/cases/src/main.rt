@@ -2,7 +2,6 @@
 // anyone's own files all go this way. docs/MAP.md, "Runs of cases", has the form of a case, the kinds and their lines.
 #![tactic(auto)]
 
-use case_reader::Next;
 use listing::LONGEST_TEXT;
 use std::io;
 use std::io::{Read, Write};
@@ -92,19 +91,14 @@ fn one<R: Read, W: Write>(
     reader: &mut R,
     writer: &mut W,
 ) -> io::Result<bool> {
-    let Next::Case {
-        kind,
-        image_len,
-        out_len,
-    } = case_reader::next_case(case, image, out.len(), reader, writer)?
-    else {
+    let Some(next) = case_reader::next_case(case, image, out.len(), reader, writer)? else {
         return Ok(false);
     };
     Ok(show(
         case,
-        kind,
-        &image[..image_len],
-        &mut out[..out_len],
+        next.kind,
+        &image[..next.image_len],
+        &mut out[..next.out_len],
         line,
         writer,
     ))
@@ -112,35 +106,25 @@ fn one<R: Read, W: Write>(
 
 // A proved loop has to end, and nothing says that standard input does. So the loop counts the cases, up to a number that no run reaches.
 fn run<R: Read, W: Write>(
-    image: &mut [u8],
-    out: &mut [u8],
-    line: &mut [u8],
-    reader: &mut R,
-    writer: &mut W,
-) -> io::Result<()> {
-    let mut case: u64 = 1;
-    while case < u64::MAX && one(case, image, out, line, reader, writer)? {
-        case += 1;
-    }
-    Ok(())
-}
-
-// Lends the arrays as slices: they live on the stack of `main`, once.
-fn lend<R: Read, W: Write>(
     image: &mut [u8; MOST_IMAGE],
     out: &mut [u8; MOST_OUT],
     line: &mut [u8; MOST_LINE],
     reader: &mut R,
     writer: &mut W,
 ) -> io::Result<()> {
-    run(image, out, line, reader, writer)
+    for case in 1..u64::MAX {
+        if !one(case, image, out, line, reader, writer)? {
+            break;
+        }
+    }
+    Ok(())
 }
 
 fn main(rt: HostRuntime) -> io::Result<()> {
     let mut image = [0u8; MOST_IMAGE];
     let mut out = [0u8; MOST_OUT];
     let mut line = [0u8; MOST_LINE];
-    lend(
+    run(
         &mut image,
         &mut out,
         &mut line,

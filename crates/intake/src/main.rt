@@ -7,10 +7,10 @@ ghost use Rattle.intake.specs.Within.{Within};
 
 use intake_line::LONGEST_BLOCK;
 use std::env::{Env, FillError};
-use std::fmt::Write as _;
+use std::fmt::InlineText;
 use std::fs::Files;
-use std::io::Write;
-use std::{fmt, fs, io, str};
+use std::io::{Read, Write};
+use std::{fs, io, str};
 use streams::read_full;
 
 // The longest image that is read.
@@ -28,80 +28,37 @@ const ENAMETOOLONG: i32 = 36;
 // Longer than what the system says of any error.
 const LONGEST_REASON: usize = 256;
 
-// How many bytes a file has; or it was not read, and why was said.
-#[derive(Clone, Copy)]
-enum Read {
-    Whole(usize),
-    Unread,
-}
-
-// Why a file was not read, in the system's words alone: `Display` puts their number behind them, ` (os error 2)`.
-#[derive(Drop)]
-struct Said {
-    bytes: [u8; LONGEST_REASON],
-    len: usize,
-    has_ended: bool,
-}
-
-impl Said {
-    fn reason(&self) -> &[u8] {
-        let n = if self.has_ended && self.len > 0 {
-            self.len - 1
-        } else {
-            self.len
-        };
-        let bytes = &self.bytes[..];
-        if n <= bytes.len() { &bytes[..n] } else { bytes }
-    }
-}
-
-impl fmt::Write for Said {
-    fn write_str(&mut self, text: &str) -> fmt::Result {
-        for b in text.as_bytes().iter() {
-            if *b == b'(' {
-                self.has_ended = true;
-            }
-            let len = self.len;
-            if !self.has_ended && len < LONGEST_REASON {
-                self.bytes[len] = *b;
-                self.len = len + 1;
-            }
-        }
-        Ok(())
-    }
-}
-
 fn say_longer<E: Write>(name: &[u8], errors: &mut E) -> io::Result<()> {
     errors.write_all(name)?;
     writeln!(errors, ": longer than {LONGEST} bytes")
 }
 
+// Says why a file was not read, in the system's words alone: `Display` puts their number behind them, ` (os error 2)`.
 fn say_failed<E: Write>(name: &[u8], error: io::Error, errors: &mut E) -> io::Result<()> {
-    let mut said = Said {
-        bytes: [0; LONGEST_REASON],
-        len: 0,
-        has_ended: false,
+    let text = InlineText::<LONGEST_REASON>::of(error);
+    let text = text.as_str();
+    let reason = match text.split_once(" (") {
+        Some((words, _)) => words,
+        None => text,
     };
-    let _ = said.write(error);
     errors.write_all(name)?;
-    errors.write_all(b": ")?;
-    errors.write_all(said.reason())?;
-    errors.write_all(b"\n")
+    writeln!(errors, ": {reason}")
 }
 
-// Reads to the end of the file, which has to come before the end of the buffer. What standard error doesn't take, here and below, is lost.
-fn read_image<F: io::Read, E: Write>(
+// Reads to the end of the file, which has to come before the end of the buffer, and answers how many bytes it has. Why a file is not read is said; what
+// standard error doesn't take, here and below, is lost.
+fn read_image<F: Read, E: Write>(
     file: &mut F,
     name: &[u8],
     image: &mut [u8],
     errors: &mut E,
-) -> Read
+) -> Option<usize>
     ensures { Within (length image.new) result }
 {
     match read_full(file, image) {
         Ok(n) => {
             if n < image.len() {
-                return Read::Whole(n);
+                return Some(n);
             }
             let _ = say_longer(name, errors);
         }
@@ -109,7 +66,7 @@ fn read_image<F: io::Read, E: Write>(
             let _ = say_failed(name, e, errors);
         }
     }
-    Read::Unread
+    None
 }
 
 // A file's name is text in std: one that isn't can't be opened.
@@ -136,7 +93,7 @@ fn take_file<S: Files, W: Write, E: Write>(
             return true;
         }
     };
-    let Read::Whole(n) = read else {
+    let Some(n) = read else {
         return true;
     };
     intake_line::print_line(&image[..n], block, writer)
@@ -164,21 +121,6 @@ fn take_argument<S: Files + Env, W: Write, E: Write>(
 }
 
 fn run<S: Files + Env, W: Write, E: Write>(
-    name: &mut [u8],
-    image: &mut [u8],
-    block: &mut [u8; LONGEST_BLOCK],
-    system: &S,
-    writer: &mut W,
-    errors: &mut E,
-) {
-    let mut i: usize = 1;
-    while i < usize::MAX && take_argument(i, name, image, block, system, writer, errors) {
-        i += 1;
-    }
-}
-
-// Lends the arrays as slices: they live on the stack of `main`, once.
-fn lend<S: Files + Env, W: Write, E: Write>(
     name: &mut [u8; PATH_MAX],
     image: &mut [u8; MOST_IMAGE],
     block: &mut [u8; LONGEST_BLOCK],
@@ -186,14 +128,18 @@ fn lend<S: Files + Env, W: Write, E: Write>(
     writer: &mut W,
     errors: &mut E,
 ) {
-    run(name, image, block, system, writer, errors);
+    for i in 1..usize::MAX {
+        if !take_argument(i, name, image, block, system, writer, errors) {
+            break;
+        }
+    }
 }
 
 fn main(rt: HostRuntime) {
     let mut name = [0u8; PATH_MAX];
     let mut image = [0u8; MOST_IMAGE];
     let mut block = [0u8; LONGEST_BLOCK];
-    lend(
+    run(
         &mut name,
         &mut image,
         &mut block,

@@ -1,23 +1,18 @@
 -- What is written of counts in a buffer of them, and that it is the sheet of what was counted.
-use Rattle.std.specs.Prelude.{◌≡◌, Bool, length, get_or, if◌then◌else◌}
+use Rattle.std.specs.Prelude.{◌≡◌, Bool, get_or, if◌then◌else◌}
 use Rattle.std.proofs.Math.Path.{refl, sym}
-use Prim.Native.Nat.{ℕ, zero, suc, ◌+◌, ◌^◌, ◌≤◌, ◌<◌}
+use Prim.Native.Nat.{ℕ, zero, suc, ◌+◌, ◌≤◌, ◌<◌}
 use native.Mathlib.Omega.{arith}
 use Rattle.std.proofs.Math.Bool.{true, false}
 use mathlib.Core.List.{List, [], ◌∷◌, ◌++◌, map, append_assoc, append-nil}
-use Rattle.std.proofs.Common.{length-append, lt-ltb, le-ltb}
+use Rattle.std.proofs.Common.{lt-ltb, le-ltb}
 use Rattle.rules.specs.Doc.Outcomes.{refused}
 use Rattle.rules.specs.Doc.Lists.{only, each}
 use Rattle.rules.specs.Doc.Bytes.{positions}
-use Rattle.rules.specs.Doc.Text.{decimal}
-use Rattle.rules.specs.Laws.Text.{twenty_digits}
 use Rattle.sheet_rules.specs.Doc.Lines.{Entry}
 use Rattle.sheet_rules.specs.Doc.Sheet.{entries, Count, count_of, counts, files_with, has_files, occurred, count_text, totals_text, sheet_text, wrong_text, sheet_of, sheet}
+use Rattle.sheet.specs.declared.counted.Counted.{Counted}
 use Rattle.sheet.specs.Counting.{Tally, totalled, Summed}
-
--- a name and a number that fits 64 bits
-pub named_limit : (name : List ℕ) (n : ℕ) → n < 2 ^ 64 → length (name ++ decimal n) ≤ length name + 20
-named_limit name n h = omega (arith, length-append name (decimal n), twenty_digits n h)
 
 abbrev counted : ℕ → ℕ → Count
 counted answer files = record { answer = answer; files = files }
@@ -39,8 +34,8 @@ unfoldable pub counts_text : List ℕ → ℕ → List ℕ
 counts_text cs zero = []
 counts_text cs (suc n) = counts_text cs n ++ count_line n (get_or cs n 0)
 
-unfoldable pub sums_text : List ℕ → ℕ → ℕ → ℕ → List ℕ
-sums_text cs files bytes largest = counts_text cs 100 ++ totals_text (totalled files bytes largest)
+unfoldable pub sums_text : Counted → List ℕ
+sums_text c = counts_text c.counts 100 ++ totals_text (totalled c.totals)
 
 -- ---- The counts of the definition
 
@@ -72,9 +67,9 @@ module _ (cs : List ℕ) (es : List Entry) (tally : Tally cs es) where
 -- ---- The sheet
 
 module _ (s : List ℕ) where
-  pub sums_sheet : (cs : List ℕ) {files bytes largest : ℕ} → Summed s cs files bytes largest → sheet s ≡ sums_text cs files bytes largest
+  pub sums_sheet : (c : Counted) → Summed s c.counts (totalled c.totals) → sheet s ≡ sums_text c
   unfolding sheet sheet_of sheet_text sums_text
-  sums_sheet cs {files} {bytes} {largest} t = rw (t.are, counts_are cs t.es t.sums.tally, t.sums.totals_are)
+  sums_sheet c t = rw (t.are, counts_are c.counts t.es t.sums.tally, t.sums.totals_are)
 
   pub wrong_sheet : {k : ℕ} → entries s ≡ refused k → sheet s ≡ wrong_text k
   unfolding sheet sheet_of

@@ -2,6 +2,7 @@
 #![tactic(auto)]
 
 mod count;
+mod counted;
 mod print;
 
 ghost use Rattle.std.specs.Prelude.{◌≡◌, ◌++◌, ◌≤◌, ◌<◌, length, drop};
@@ -9,7 +10,7 @@ ghost use Rattle.rules.specs.Doc.Listing.{printed};
 ghost use Rattle.sheet_rules.specs.Doc.Sheet.{sheet};
 ghost use Rattle.sheet.specs.Fronts.{OfEvery};
 
-use count::{ANSWERS, Counted, count};
+use count::count;
 use print::{put_sums, put_wrong};
 
 // No sheet is longer (`sheet_length` in sheet_rules, Laws/SheetLength).
@@ -23,15 +24,9 @@ pub fn write_sheet(lines: &[u8], out: &mut [u8]) -> usize
     ensures value { result ≡ length (sheet lines.now) }
     ensures out_after { out.new ≡ printed (sheet lines.now) out.old }
 {
-    let mut counts = [0usize; ANSWERS];
-    let counted = count(lines, &mut counts);
-    match counted {
-        Counted::Sum {
-            files,
-            bytes,
-            largest,
-        } => put_sums(&counts, files, bytes, largest, out),
-        Counted::Wrong(line) => put_wrong(line, out),
+    match count(lines) {
+        Ok(counted) => put_sums(&counted, out),
+        Err(line) => put_wrong(line, out),
     }
 }
 
@@ -43,20 +38,9 @@ pub fn write_whole_sheet(lines: &[u8], out: &mut [u8; LONGEST_SHEET]) -> usize
     write_sheet(lines, out)
 }
 
-// Over a slice, since no part of an array behind a reference can be lent.
-fn write_front(front: &[u8], n: usize, out: &mut [u8; LONGEST_SHEET]) -> usize
-    requires { 2300000 < length front.now }
-    ensures { OfEvery front.now n out.old result out.new }
-{
-    if front.len() < n {
-        return write_whole_sheet(front, out);
-    }
-    write_whole_sheet(&front[..n], out)
-}
-
 // The sheet of an input of which `front` has the first bytes: n of them, which are all, or as many as it holds. Whatever stands behind them has no say.
 pub fn write_front_sheet(front: &[u8; MOST_INPUT], n: usize, out: &mut [u8; LONGEST_SHEET]) -> usize
     ensures { OfEvery front.now n out.old result out.new }
 {
-    write_front(front, n, out)
+    write_whole_sheet(&front[..n.min(front.len())], out)
 }

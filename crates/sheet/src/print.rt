@@ -5,9 +5,11 @@ ghost use Rattle.text.specs.Wrote.{Wrote};
 ghost use Rattle.sheet.specs.Counting.{totalled};
 ghost use Rattle.sheet.specs.Printed.{count_line, counts_text, sums_text};
 
+use crate::counted::{ANSWERS, Counted, Totals};
 use text::put_named;
 
 // An answer without files has no line.
+#[tactic(auto, using(rules::specs::Laws::Text::twenty_digits))]
 fn put_count(answer: usize, files: usize, out: &mut [u8], at: usize) -> usize
     requires { at + 55 < 2 ^ 64 }
     ensures { Wrote (count_line answer files) at out.old result out.new × (result ≤ at + 55) }
@@ -20,45 +22,37 @@ fn put_count(answer: usize, files: usize, out: &mut [u8], at: usize) -> usize
     text::put(b"\n", out, at)
 }
 
-fn put_counts(counts: &[usize], out: &mut [u8]) -> usize
-    requires { length counts.now ≡ 100 }
+fn put_counts(counts: &[usize; ANSWERS], out: &mut [u8]) -> usize
     ensures { Wrote (counts_text counts.now 100) 0 out.old result out.new × (result ≤ 5500) }
 {
-    let mut at: usize = 0;
-    let mut answer: usize = 0;
-    while answer < counts.len() {
-        at = put_count(answer, counts[answer], out, at);
-        answer += 1;
+    let mut at = 0;
+    for (answer, files) in counts.iter().enumerate() {
+        at = put_count(answer, *files, out, at);
     }
     at
 }
 
-fn put_totals(files: usize, bytes: usize, largest: usize, out: &mut [u8], at: usize) -> usize
+#[tactic(auto, using(rules::specs::Laws::Text::twenty_digits))]
+fn put_totals(totals: Totals, out: &mut [u8], at: usize) -> usize
     requires { at + 100 < 2 ^ 64 }
-    ensures { Wrote (totals_text (totalled files bytes largest)) at out.old result out.new }
+    ensures { Wrote (totals_text (totalled totals)) at out.old result out.new }
 {
-    let at = put_named(b"total files=", files, out, at);
-    let at = put_named(b" bytes=", bytes, out, at);
-    let at = put_named(b" largest=", largest, out, at);
+    let at = put_named(b"total files=", totals.files, out, at);
+    let at = put_named(b" bytes=", totals.bytes, out, at);
+    let at = put_named(b" largest=", totals.largest, out, at);
     text::put(b"\n", out, at)
 }
 
 // Each answer that occurred, and the totals.
-pub(crate) fn put_sums(
-    counts: &[usize],
-    files: usize,
-    bytes: usize,
-    largest: usize,
-    out: &mut [u8],
-) -> usize
-    requires { length counts.now ≡ 100 }
-    ensures { Wrote (sums_text counts.now files bytes largest) 0 out.old result out.new }
+pub(crate) fn put_sums(counted: &Counted, out: &mut [u8]) -> usize
+    ensures { Wrote (sums_text counted.now) 0 out.old result out.new }
 {
-    let at = put_counts(counts, out);
-    put_totals(files, bytes, largest, out, at)
+    let at = put_counts(&counted.counts, out);
+    put_totals(counted.totals, out, at)
 }
 
 // Only the number of a line.
+#[tactic(auto, using(rules::specs::Laws::Text::twenty_digits))]
 pub(crate) fn put_wrong(line: usize, out: &mut [u8]) -> usize
     ensures { Wrote (wrong_text line) 0 out.old result out.new }
 {

@@ -1,20 +1,20 @@
 -- A name and a plain decimal behind it, at the front of some bytes: what was read of them, digit by digit.
-use Rattle.std.specs.Prelude.{◌≡◌, refl, ℕ, zero, suc, ◌+◌, ◌-◌, ◌*◌, ◌/◌, ◌%◌, ◌≤◌, ◌<◌, Bool, true, false, ◌&&◌, ◌⊎◌, List, [], ◌∷◌, ◌++◌, length, ltb, eqb}
-use Rattle.std.proofs.Common.{sym, ◌∙◌, true≢false, inl, inr, append_assoc, length-append, length-drop, drop_of_length-le, drop-cons, drop-drop, le-leb, lt-ltb, ltb-true, ltb-false, eq-eqb, ne_eqb, eqb-true}
+use Rattle.std.specs.Prelude.{Option, Some, None, ◌≡◌, ◌≢◌, refl, ℕ, zero, suc, ◌+◌, ◌-◌, ◌*◌, ◌/◌, ◌%◌, ◌≤◌, ◌<◌, false, ◌⊎◌, List, [], ◌∷◌, ◌++◌, length, ltb}
+use Rattle.std.proofs.Common.{sym, ◌∙◌, inl, inr, append_assoc, length-append, drop_of_length-le, drop-cons, le-leb, lt-ltb, ltb-true, ltb-false}
 use Rattle.std.proofs.Math.Path.{ap}
 use native.Mathlib.Omega.{arith}
+use mathlib.Core.List.{append_cancel_left}
 use Rattle.std.proofs.Math.Numerals.{add-one}
 use Rattle.std.proofs.Math.ListN.{drop, get_or, get_or-append}
-use Rattle.std.proofs.Math.Seq.{drop-append_seam}
+use Rattle.std.proofs.Math.Seq.{drop-append-add}
 use Rattle.std.proofs.lemmas.Bool.{lt-leb}
 use Rattle.rules.specs.Doc.Text.{digit, decimal_to, decimal, is_digit}
 use Rattle.rules.specs.Laws.Text.{decimal_one, decimal_more, one_digit}
-use Rattle.rules.specs.Laws.Rows.{both_true, by_test}
+use Rattle.rules.specs.Laws.Rows.{by_test}
 use Rattle.rules.specs.Demands.Digits.{digit_value, value_from, decimal_back}
 use Rattle.sheet_rules.specs.Doc.Rows.{digit_then, digits_in}
 use Rattle.sheet_rules.specs.Laws.Digits.{NoDigit, is_digit_is, digits_append, decimal_digits, digits_front}
 use Rattle.sheet_line.specs.declared.Number.{Number}
-use Rattle.sheet_line.specs.declared.Number.TheVariants.{Value, Other}
 
 -- ---- What was read
 
@@ -29,90 +29,44 @@ pub record NamedTo (name : List ℕ) (most : ℕ) (s : List ℕ) (n end : ℕ) :
 abbrev pub NotNamed : List ℕ → ℕ → List ℕ → Type 0
 NotNamed name most s = (n : ℕ) (rest : List ℕ) → n ≤ most → NoDigit rest → s ≡ name ++ decimal n ++ rest → ⊥
 
-abbrev pub Named : List ℕ → ℕ → List ℕ → Number → Type 0
-Named name most s (Value n end) = NamedTo name most s n end
-Named name most s Other = NotNamed name most s
-
--- ---- A word at the front
-
-unfoldable pub starts : List ℕ → List ℕ → Bool
-starts [] s = true
-starts (c ∷ w) [] = false
-starts (c ∷ w) (d ∷ s) = eqb d c && starts w s
-
-pub starts_short : (w s : List ℕ) → length s < length w → starts w s ≡ false
-unfolding starts
-starts_short [] s h = absurd (omega arith)
-starts_short (c ∷ w) [] h = refl
-starts_short (c ∷ w) (d ∷ s) h = go (eqb d c) (starts_short w s (omega arith))
-  where
-    go : (t : Bool) → starts w s ≡ false → (t && starts w s) ≡ false
-    go true e = e
-    go false e = refl
-
--- from a byte on, in both
-starts_next : (w s : List ℕ) (i : ℕ) → i < length w → i < length s
-    → starts (drop i w) (drop i s) ≡ (eqb (get_or s i 0) (get_or w i 0) && starts (drop (i + 1) w) (drop (i + 1) s))
-unfolding starts
-starts_next w s i h k = rw (drop-cons w i 0 h, drop-cons s i 0 k, add-one i)
-
-module _ (w s : List ℕ) (i : ℕ) (more : i < length w) (fits : length w ≤ length s) {t : Bool} (inv : starts (drop i w) (drop i s) ≡ t) where
-  pub starts_more : get_or s i 0 ≡ get_or w i 0 → starts (drop (i + 1) w) (drop (i + 1) s) ≡ t
-  starts_more e = rw (starts_next w s i more (omega arith), eq-eqb (get_or s i 0) (get_or w i 0) e) at inv
-
-  pub starts_broken : (get_or s i 0 ≡ get_or w i 0 → ⊥) → false ≡ t
-  starts_broken e = rw (starts_next w s i more (omega arith), ne_eqb (get_or s i 0) (get_or w i 0) e) at inv
-
-pub starts_done : (w s : List ℕ) (i : ℕ) → length w ≤ i → {t : Bool} → starts (drop i w) (drop i s) ≡ t → true ≡ t
-unfolding starts
-starts_done w s i h e = rw (drop_of_length-le w h) at e
-
-pub starts_is : (w s : List ℕ) → starts w s ≡ true → (length w ≤ length s) × (s ≡ w ++ drop (length w) s)
-unfolding starts
-starts_is [] s e = (omega arith, refl)
-starts_is (c ∷ w) [] e = absurd (true≢false (sym e))
-starts_is (c ∷ w) (d ∷ s) e =
-    let (p, q) = both_true (eqb d c) (starts w s) e in
-    let (n, r) = starts_is w s q in
-    (omega (arith, n), rw (eqb-true d c p) (ap (λ (l : List ℕ). c ∷ l) r))
-
-pub starts_with : (w s : List ℕ) → starts w (w ++ s) ≡ true
-unfolding starts
-starts_with [] s = refl
-starts_with (c ∷ w) s = rw (eq-eqb c c refl) (starts_with w s)
+abbrev pub Named : List ℕ → ℕ → List ℕ → Option Number → Type 0
+Named name most s (Some number) = NamedTo name most s number.n number.end
+Named name most s None = NotNamed name most s
 
 -- ---- A digit
 
--- d is the digit at a position, or 10 where none is
-pub record Digit (s : List ℕ) (i d : ℕ) : Type 0 where
-  pub is : d < 10 → (i < length s) × (drop i s ≡ digit d ∷ drop (i + 1) s)
-  pub none : 10 ≤ d → NoDigit (drop i s)
+pub record DigitAt (s : List ℕ) (i d : ℕ) : Type 0 where
+  pub small : d < 10
+  pub inside : i < length s
+  pub splits : drop i s ≡ digit d ∷ drop (i + 1) s
+
+-- the digit at a position, if there is one
+abbrev pub Digit : List ℕ → ℕ → Option ℕ → Type 0
+Digit s i (Some d) = DigitAt s i d
+Digit s i None = NoDigit (drop i s)
 
 module _ (s : List ℕ) (i : ℕ) where
-  pub digit_end : length s ≤ i → Digit s i 10
+  pub digit_end : length s ≤ i → Digit s i None
   unfolding digits_in
-  digit_end h = record { is = λ d. absurd (omega arith); none = λ d. rw (drop_of_length-le s h) }
+  digit_end h = rw (drop_of_length-le s h)
 
-  module _ (h : i < length s) where
-    not_digit : is_digit (get_or s i 0) ≡ false → Digit s i 10
+  module _ (c : ℕ) (h : i < length s) (e : c ≡ get_or s i 0) where
+    here : drop i s ≡ c ∷ drop (i + 1) s
+    here = rw (e, add-one i) (drop-cons s i 0 h)
+
+    not_digit : is_digit c ≡ false → Digit s i None
     unfolding digits_in digit_then
-    not_digit e = record { is = λ d. absurd (omega arith); none = λ d. rw (drop-cons s i 0 h, e) }
+    not_digit f = rw (here, f)
 
-    pub digit_below : get_or s i 0 < 48 → Digit s i 10
-    digit_below k = not_digit (rw (lt-leb 48 (get_or s i 0) k))
+    pub digit_other : (c < 48) ⊎ (57 < c) → Digit s i None
+    digit_other (inl k) = not_digit (rw (lt-leb 48 c k))
+    digit_other (inr k) = not_digit (rw (le-leb 48 c (omega arith), lt-leb c 57 k))
 
-    pub digit_above : 57 < get_or s i 0 → Digit s i 10
-    digit_above k = not_digit (rw (le-leb 48 (get_or s i 0) (omega arith), lt-leb (get_or s i 0) 57 k))
-
-    pub digit_there : 48 ≤ get_or s i 0 → get_or s i 0 ≤ 57 → Digit s i (get_or s i 0 - 48)
+    pub digit_there : 48 ≤ c → c ≤ 57 → DigitAt s i (c - 48)
     unfolding digit
     digit_there k l =
-        let c = get_or s i 0 in
-        let e : 48 + (c - 48) ≡ c = omega arith in
-        record {
-          is = λ d. (h, rw (lt-ltb (c - 48) 10 (omega arith), e, add-one i) (drop-cons s i 0 h));
-          none = λ d. absurd (omega arith);
-        }
+        let f : 48 + (c - 48) ≡ c = omega arith in
+        record { small = omega arith; inside = h; splits = rw (lt-ltb (c - 48) 10 (omega arith), f) here }
 
 -- ---- The digits of a number
 
@@ -179,7 +133,7 @@ pub taken_all : (most : ℕ) (s : List ℕ) (i n : ℕ) → Taken s i n → (i �
 taken_all most s i n (inl t) h k p = absurd (h t.0)
 taken_all most s i n (inr t) h k p = record { small = k; splits = t.2; whole = p; inside = t.1 }
 
-module _ (s : List ℕ) (i n d : ℕ) (taken : Taken s i n) (small : d < 10) (next : (i < length s) × (drop i s ≡ digit d ∷ drop (i + 1) s)) where
+module _ (s : List ℕ) (i n d : ℕ) (taken : Taken s i n) (next : DigitAt s i d) where
   -- a digit behind a leading zero
   pub taken_zero : (most : ℕ) → (i ≡ 0 → ⊥) → n ≡ 0 → NotNamed [] most s
   unfolding digits_in digit_then
@@ -188,9 +142,9 @@ module _ (s : List ℕ) (i n d : ℕ) (taken : Taken s i n) (small : d < 10) (ne
       go : Taken s i n → ⊥
       go (inl t) = h t.0
       go (inr t) =
-          let zero_first : s ≡ decimal 0 ++ digit d ∷ drop (i + 1) s = t.2 ∙ rw (next.1, z) in
+          let zero_first : s ≡ decimal 0 ++ digit d ∷ drop (i + 1) s = t.2 ∙ rw (next.splits, z) in
           let ds : digits_in s ≡ digit 0 ∷ digit d ∷ digits_in (drop (i + 1) s) =
-          ap digits_in zero_first ∙ rw (decimal_one 0 (omega arith), is_digit_is 0 (omega arith), is_digit_is d small) in
+          ap digits_in zero_first ∙ rw (decimal_one 0 (omega arith), is_digit_is 0 (omega arith), is_digit_is d next.small) in
           no_leading_zero m (digit d) (digits_in (drop (i + 1) s)) (sym (front_digits s m rest p e) ∙ ds)
 
   -- the digits up to here and this one
@@ -200,14 +154,14 @@ module _ (s : List ℕ) (i n d : ℕ) (taken : Taken s i n) (small : d < 10) (ne
       go : Taken s i n → (i ≡ 0) ⊎ (1 ≤ n) → s ≡ decimal (n * 10 + d) ++ drop (i + 1) s
       go (inl t) o =
           let e : n * 10 + d ≡ d = omega (arith, t.1) in
-          let f = next.1 in
-          rw (e, decimal_one d small, t.0) (rw t.0 at f)
+          let f = next.splits in
+          rw (e, decimal_one d next.small, t.0) (rw t.0 at f)
       go (inr t) (inl z) = absurd (omega (arith, t.0, z))
-      go (inr t) (inr h) = t.2 ∙ rw (next.1, decimal_push n d h small) (sym (append_assoc (decimal n) (digit d ∷ []) (drop (i + 1) s)))
+      go (inr t) (inr h) = t.2 ∙ rw (next.splits, decimal_push n d h next.small) (sym (append_assoc (decimal n) (digit d ∷ []) (drop (i + 1) s)))
 
   module _ (o : (i ≡ 0) ⊎ (1 ≤ n)) where
     pub taken_more : Taken s (i + 1) (n * 10 + d)
-    taken_more = inr (omega arith, omega (arith, next.0), pushed o)
+    taken_more = inr (omega arith, omega (arith, next.inside), pushed o)
 
     -- more than is taken
     pub taken_over : (most : ℕ) → most < n * 10 + d → NotNamed [] most s
@@ -223,24 +177,20 @@ module _ (s : List ℕ) (i n d : ℕ) (taken : Taken s i n) (small : d < 10) (ne
 -- ---- A name and a number
 
 module _ (name : List ℕ) (most : ℕ) (s : List ℕ) where
-  pub not_started : starts name s ≡ false → NotNamed name most s
-  not_started e n rest h p f =
-      let g : s ≡ name ++ (decimal n ++ rest) = f ∙ append_assoc name (decimal n) rest in
-      true≢false (sym (starts_with name (decimal n ++ rest)) ∙ rw (← g) e)
+  pub not_started : ((rest : List ℕ) → s ≢ name ++ rest) → NotNamed name most s
+  not_started p n rest h q e = p (decimal n ++ rest) (e ∙ append_assoc name (decimal n) rest)
 
-  module _ (e : starts name s ≡ true) where
-    pub named_to : {n end : ℕ} → NamedTo [] most (drop (length name) s) n end → NamedTo name most s n (length name + end)
+  module _ (behind : List ℕ) (started : s ≡ name ++ behind) where
+    pub named_to : {n end : ℕ} → NamedTo [] most behind n end → NamedTo name most s n (length name + end)
     named_to {n} {end} t =
-        let (fits, splits) = starts_is name s e in
-        let behind = drop-drop end (length name) s in
+        let rest : drop (length name + end) s ≡ drop end behind = ap (drop (length name + end)) started ∙ drop-append-add name behind end in
         record {
           small = t.small;
-          splits = splits ∙ rw (← behind, append_assoc name (decimal n) (drop end (drop (length name) s)))
-              (ap (λ (l : List ℕ). name ++ l) t.splits);
-          whole = rw (← behind) t.whole;
-          inside = omega (arith, fits, t.inside, length-drop (length name) s);
+          splits = rw (rest, append_assoc name (decimal n) (drop end behind), ← t.splits) started;
+          whole = rw rest t.whole;
+          inside = omega (arith, ap length started, length-append name behind, t.inside);
         }
 
-    pub not_named : NotNamed [] most (drop (length name) s) → NotNamed name most s
-    not_named t n rest h p f =
-        t n rest h p (ap (drop (length name)) (f ∙ append_assoc name (decimal n) rest) ∙ drop-append_seam name (decimal n ++ rest))
+    pub not_named : NotNamed [] most behind → NotNamed name most s
+    not_named t n rest h p e =
+        t n rest h p (append_cancel_left name behind (decimal n ++ rest) (sym started ∙ e ∙ append_assoc name (decimal n) rest))

@@ -1,11 +1,14 @@
 -- A line at the front of some bytes, by what was read of its two numbers.
-use Rattle.std.specs.Prelude.{◌≡◌, refl, ℕ, ◌+◌, ◌≤◌, Bool, true, false, ◌⊎◌, eqb, if◌then◌else◌}
-use Rattle.std.proofs.Common.{sym, ◌∙◌, arith, true≢false, inl, inr, eq-eqb, ne_eqb, eqb-true}
+use Rattle.std.specs.Prelude.{Option, Some, None, ◌≡◌, refl, ℕ, ◌+◌, ◌≤◌, Bool, true, false, ◌⊎◌, eqb, if◌then◌else◌}
+use Rattle.std.proofs.Common.{sym, ◌∙◌, arith, true≢false, inl, inr, eqb-true}
 use Rattle.std.proofs.Math.Path.{ap}
 use mathlib.Core.List.{List, [], ◌∷◌, ◌++◌, append_assoc, append_cancel_left}
-use lib.ListN.{length, drop, length-drop}
+use lib.ListN.{length, drop, length-drop, length-append}
 use Rattle.std.proofs.Math.Seq.{drop-drop}
 use Rattle.std.proofs.lemmas.Bool.{eqb-false}
+use Rattle.std.specs.List.{starts_with}
+use Rattle.std.proofs.lemmas.Bool.Decides.{Decides-eqb}
+use Rattle.std.proofs.lemmas.Slice.Eq.{starts_is}
 use Rattle.rules.specs.Doc.Text.{ascii, decimal}
 use Rattle.rules.specs.Doc.Listing.{newline}
 use Rattle.sheet_rules.specs.Doc.Rows.{row_text}
@@ -14,9 +17,8 @@ use Rattle.sheet_rules.specs.Laws.Digits.{NoDigit, split_one}
 use Rattle.sheet_rules.specs.Laws.Rows.{line_names_is, row_apart}
 use Rattle.sheet_rules.specs.Laws.Shape.{Allowed}
 use Rattle.sheet_rules.specs.Laws.Entries.{OtherLine}
-use Rattle.sheet_line.specs.Numbers.{NamedTo, NotNamed, starts, starts_is, starts_with}
-use Rattle.sheet_line.specs.declared.Line.{Line}
-use Rattle.sheet_line.specs.declared.Line.TheVariants as l
+use Rattle.sheet_line.specs.Numbers.{NamedTo, NotNamed}
+use Rattle.sheet_line.specs.declared.Entry as code
 
 abbrev pub entry : ℕ → ℕ → Entry
 entry answer length = record { answer = answer; length = length }
@@ -28,21 +30,13 @@ pub record LineTo (s : List ℕ) (answer length end : ℕ) : Type 0 where
   pub some : 1 ≤ end
   pub inside : end ≤ lib.ListN.length s
 
-abbrev pub LineAt : List ℕ → Line → Type 0
-LineAt s (l.Entry answer length end) = LineTo s answer length end
-LineAt s l.Other = OtherLine s
+abbrev pub LineAt : List ℕ → Option code.Entry → Type 0
+LineAt s (Some line) = LineTo s line.answer line.length line.end
+LineAt s None = OtherLine s
 
 -- the largest length beside an answer
 unfoldable pub most_length : ℕ → ℕ
 most_length answer = if eqb answer 0 then 65535 else 0
-
-pub most_zero : (answer : ℕ) → answer ≡ 0 → 65535 ≡ most_length answer
-unfolding most_length
-most_zero answer e = rw (eq-eqb answer 0 e)
-
-pub most_other : (answer : ℕ) → (answer ≡ 0 → ⊥) → 0 ≡ most_length answer
-unfolding most_length
-most_other answer e = rw (ne_eqb answer 0 e)
 
 within_most : (e : Entry) → Allowed e → e.length ≤ most_length e.answer
 unfolding most_length
@@ -118,25 +112,24 @@ module _ (s : List ℕ) where
           let (x, y) = same_answer_is e rest f in
           named_one length_name sized e.length (newline ++ rest) (length_apart rest) (y ∙ length_split e rest)
 
-      pub no_newline : starts newline (drop (at + more) s) ≡ false → OtherLine s
+      pub no_newline : false ≡ starts_with eqb (drop (at + more) s) newline → OtherLine s
       no_newline n e rest a f =
-          let z : drop (at + more) s ≡ newline ++ rest = sym (drop-drop more at s) ∙ (same_length e rest f).1 in
-          true≢false (sym (starts_with newline rest) ∙ rw z at n)
+          true≢false (sym ((starts_is Decides-eqb (drop (at + more) s) newline false n).1 rest (sym (drop-drop more at s) ∙ (same_length e rest f).1)))
 
-      module _ (n : starts newline (drop (at + more) s) ≡ true) where
+      module _ (n : true ≡ starts_with eqb (drop (at + more) s) newline) where
         pub whole_line : LineTo s answer length (at + more + 1)
         unfolding line_text line_names row_text
         whole_line =
-            let (fits, splits) = starts_is newline (drop (at + more) s) n in
             let e = entry answer length in
+            let last = (starts_is Decides-eqb (drop (at + more) s) newline true n).0 refl in
             let behind : drop 1 (drop (at + more) s) ≡ drop (at + more + 1) s = drop-drop 1 (at + more) s in
             let all : s ≡ answer_name ++ decimal answer ++ (length_name ++ decimal length ++ (newline ++ drop (at + more + 1) s)) =
             named.splits
             ∙ ap (λ (l : List ℕ). answer_name ++ decimal answer ++ l)
-            (sized.splits ∙ ap (λ (l : List ℕ). length_name ++ decimal length ++ l) (drop-drop more at s ∙ rw behind at splits)) in
+            (sized.splits ∙ ap (λ (l : List ℕ). length_name ++ decimal length ++ l) (drop-drop more at s ∙ rw behind at last)) in
             record {
               allows = most_allows answer length named.small sized.small;
               splits = all ∙ rw (← length_split e (drop (at + more + 1) s), ← answer_split e (drop (at + more + 1) s));
               some = omega arith;
-              inside = omega (arith, fits, length-drop (at + more) s);
+              inside = omega (arith, ap lib.ListN.length last, length-append newline (drop 1 (drop (at + more) s)), length-drop (at + more) s);
             }

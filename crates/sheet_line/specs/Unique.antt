@@ -1,5 +1,5 @@
 -- No two answers meet the contract of `read_line`.
-use Rattle.std.specs.Prelude.{◌≡◌, refl, ℕ, length, drop}
+use Rattle.std.specs.Prelude.{Option, Some, None, ◌≡◌, refl, ℕ, length, drop}
 use Rattle.std.proofs.Common.{sym, ap, ◌∙◌, arith, length-append, length-drop}
 use mathlib.Core.List.{List, head-eq_of_cons-eq}
 use Rattle.std.proofs.Math.Option.{some}
@@ -7,8 +7,7 @@ use Rattle.sheet_rules.specs.Doc.Lines.{lines, Entry, line_text, entry_in}
 use Rattle.sheet_rules.specs.Laws.Lines.{flat_line}
 use Rattle.sheet_rules.specs.Laws.Shape.{line_read, line_flat}
 use Rattle.sheet_line.specs.Shape.{entry, LineTo, LineAt}
-use Rattle.sheet_line.specs.declared.Line.{Line}
-use Rattle.sheet_line.specs.declared.Line.TheVariants as l
+use Rattle.sheet_line.specs.declared.Entry as code
 
 module _ (s : List ℕ) {a b n m i j : ℕ} (p : LineTo s a n i) (q : LineTo s b m j) where
   -- both are the first line
@@ -32,12 +31,12 @@ module _ (s : List ℕ) {a b n m i j : ℕ} (p : LineTo s a n i) (q : LineTo s b
       let y = simp length-append at (ap length q.splits) in
       omega (arith, x, y, ap length same_text, length-drop i s, length-drop j s, p.inside, q.inside)
 
-pub line_one : (s : List ℕ) (x y : Line) → LineAt s x → LineAt s y → x ≡ y
-line_one s (l.Entry a n i) (l.Entry b m j) p q =
+pub line_one : (s : List ℕ) (x y : Option code.Entry) → LineAt s x → LineAt s y → x ≡ y
+line_one s (Some x) (Some y) p q =
     let e = same_entry s p q in
-    let f : a ≡ b = ap (λ (e : Entry). e.answer) e in
-    let g : n ≡ m = ap (λ (e : Entry). e.length) e in
+    let f : x.answer ≡ y.answer = ap (λ (e : Entry). e.answer) e in
+    let g : x.length ≡ y.length = ap (λ (e : Entry). e.length) e in
     rw (f, g, same_end s p q)
-line_one s (l.Entry a n i) l.Other p q = absurd (q (entry a n) (drop i s) p.allows p.splits)
-line_one s l.Other (l.Entry a n i) p q = absurd (p (entry a n) (drop i s) q.allows q.splits)
-line_one s l.Other l.Other p q = refl
+line_one s (Some x) None p q = absurd (q (entry x.answer x.length) (drop x.end s) p.allows p.splits)
+line_one s None (Some y) p q = absurd (p (entry y.answer y.length) (drop y.end s) q.allows q.splits)
+line_one s None None p q = refl

@@ -2,25 +2,22 @@
 #![tactic(auto)]
 
 ghost use Rattle.std.specs.Prelude.{◌≡◌, [], ◌≤◌};
-ghost use Rattle.sheet_line.specs.Numbers.{starts, Digit, Named};
+ghost use Rattle.sheet_line.specs.Numbers.{Digit, Named};
 ghost use Rattle.sheet_line.specs.Shape.{most_length, LineAt};
 
-// A number, and how many bytes it and what stands before it take; or something else stands there.
+// A number, and how many bytes it and what stands before it take.
 #[derive(Clone, Copy)]
-enum Number {
-    Value { n: usize, end: usize },
-    Other,
+struct Number {
+    n: usize,
+    end: usize,
 }
 
-// What a line says, and how many bytes it has; or it is of another shape.
+// What a line says, and how many bytes it has.
 #[derive(Clone, Copy)]
-pub enum Line {
-    Entry {
-        answer: usize,
-        length: usize,
-        end: usize,
-    },
-    Other,
+pub struct Entry {
+    pub answer: usize,
+    pub length: usize,
+    pub end: usize,
 }
 
 // The largest answer that a line can have.
@@ -29,113 +26,77 @@ const MOST_ANSWER: usize = 99;
 // The largest length.
 const MOST_LENGTH: usize = 65535;
 
-fn starts(word: &[u8], s: &[u8]) -> bool
-    ensures { result ≡ starts word.now s.now }
-{
-    if s.len() < word.len() {
-        return false;
-    }
-    let mut i: usize = 0;
-    while i < word.len() {
-        if s[i] != word[i] {
-            return false;
-        }
-        i += 1;
-    }
-    true
-}
-
-// The digit at a position, and 10 where none is.
-fn digit_at(s: &[u8], i: usize) -> usize
+// The digit at a position, if one stands there.
+#[tactic(auto, using(crate::specs::Numbers::digit_end, crate::specs::Numbers::digit_other, crate::specs::Numbers::digit_there))]
+fn digit_at(s: &[u8], i: usize) -> Option<usize>
     ensures { Digit s.now i result }
 {
-    if s.len() <= i {
-        return 10;
+    let c = *s.get(i)?;
+    if c.is_ascii_digit() {
+        Some(usize::from(c - b'0'))
+    } else {
+        None
     }
-    let c = s[i];
-    if c < b'0' {
-        return 10;
-    }
-    if b'9' < c {
-        return 10;
-    }
-    (c - b'0') as usize
 }
 
 // A plain decimal at the front.
-fn read_decimal(s: &[u8], most: usize) -> Number
+fn read_decimal(s: &[u8], most: usize) -> Option<Number>
     requires { most ≤ 65535 }
     ensures { Named [] most s.now result }
 {
-    let mut n: usize = 0;
-    let mut i: usize = 0;
-    let mut d = digit_at(s, 0);
-    while d < 10 {
+    let mut n = 0;
+    let mut end = 0;
+    while let Some(digit) = digit_at(s, end) {
         // A digit behind a leading zero.
-        if 0 < i && n == 0 {
-            return Number::Other;
+        if 0 < end && n == 0 {
+            return None;
         }
-        n = n * 10 + d;
+        n = n * 10 + digit;
         if most < n {
-            return Number::Other;
+            return None;
         }
-        i += 1;
-        d = digit_at(s, i);
+        end += 1;
     }
-    if i == 0 {
-        return Number::Other;
+    if end == 0 {
+        return None;
     }
-    Number::Value { n, end: i }
+    Some(Number { n, end })
 }
 
 // A name and a plain decimal behind it.
-fn read_named(name: &[u8], s: &[u8], most: usize) -> Number
+fn read_named(name: &[u8], s: &[u8], most: usize) -> Option<Number>
     requires { most ≤ 65535 }
     ensures { Named name.now most s.now result }
 {
-    if !starts(name, s) {
-        return Number::Other;
-    }
-    let from = name.len();
-    let number = read_decimal(&s[from..], most);
-    match number {
-        Number::Value { n, end } => {
-            let behind = from + end;
-            Number::Value { n, end: behind }
-        }
-        Number::Other => Number::Other,
-    }
+    let behind = s.strip_prefix(name)?;
+    let number = read_decimal(behind, most)?;
+    Some(Number {
+        n: number.n,
+        end: name.len() + number.end,
+    })
 }
 
 // Only answer 0 has a length.
+#[tactic(auto, unfolding(crate::specs::Shape::most_length))]
 fn most_length(answer: usize) -> usize
     ensures { (result ≡ most_length answer) × (result ≤ 65535) }
 {
     if answer == 0 { MOST_LENGTH } else { 0 }
 }
 
-// The line at the front.
-pub fn read_line(s: &[u8]) -> Line
+// The line at the front; or nothing, where another shape stands there.
+pub fn read_line(s: &[u8]) -> Option<Entry>
     ensures { LineAt s.now result }
 {
-    let Number::Value { n: answer, end: at } = read_named(b"answer=", s, MOST_ANSWER) else {
-        return Line::Other;
-    };
-    let Number::Value {
-        n: length,
-        end: more,
-    } = read_named(b" length=", &s[at..], most_length(answer))
-    else {
-        return Line::Other;
-    };
-    let last = at + more;
-    if !starts(b"\n", &s[last..]) {
-        return Line::Other;
+    let answer = read_named(b"answer=", s, MOST_ANSWER)?;
+    let length = read_named(b" length=", &s[answer.end..], most_length(answer.n))?;
+    let last = answer.end + length.end;
+    if !s[last..].starts_with(b"\n") {
+        return None;
     }
-    let end = last + 1;
-    Line::Entry {
-        answer,
-        length,
-        end,
-    }
+    Some(Entry {
+        answer: answer.n,
+        length: length.n,
+        end: last + 1,
+    })
 }

@@ -10,10 +10,9 @@ fn put_byte(b: u8, out: &mut [u8], at: usize) -> usize
     requires { at + 1 < 2 ^ 64 }
     ensures { Wrote (b ∷ []) at out.old result out.new }
 {
-    if out.len() <= at {
-        return at + 1;
+    if at < out.len() {
+        out[at] = b;
     }
-    out[at] = b;
     at + 1
 }
 
@@ -21,24 +20,24 @@ pub fn put(part: &[u8], out: &mut [u8], at: usize) -> usize
     requires { at + length part.now < 2 ^ 64 }
     ensures { Wrote part.now at out.old result out.new }
 {
-    let mut i: usize = 0;
     let mut end = at;
-    while i < part.len() {
-        end = put_byte(part[i], out, end);
-        i += 1;
+    for b in part {
+        end = put_byte(*b, out, end);
     }
     end
 }
 
 // The letter of a digit below 16.
-fn digit(d: usize) -> u8
+#[tactic(auto, unfolding(rules::specs::Doc::Text::digit))]
+pub fn digit(d: usize) -> u8
     requires { d < 16 }
     ensures { result ≡ digit d }
 {
-    if d < 10 { 48 + d as u8 } else { 87 + d as u8 }
+    b"0123456789abcdef"[d]
 }
 
 // A plain decimal number without leading zeros.
+#[tactic(auto, using(rules::specs::Laws::Text::decimal_one, rules::specs::Laws::Text::decimal_longer, rules::specs::Laws::Text::one_digit))]
 pub fn put_decimal(n: usize, out: &mut [u8], at: usize) -> usize
     requires { at + length (decimal n) < 2 ^ 64 }
     ensures { Wrote (decimal n) at out.old result out.new }
@@ -51,6 +50,7 @@ pub fn put_decimal(n: usize, out: &mut [u8], at: usize) -> usize
 }
 
 // A name and a number, as `at=20`.
+#[tactic(auto, using(crate::specs::Wrote::room_first, crate::specs::Wrote::room_then))]
 pub fn put_named(name: &[u8], n: usize, out: &mut [u8], at: usize) -> usize
     requires { at + length (name.now ++ decimal n) < 2 ^ 64 }
     ensures { Wrote (name.now ++ decimal n) at out.old result out.new }
@@ -59,7 +59,8 @@ pub fn put_named(name: &[u8], n: usize, out: &mut [u8], at: usize) -> usize
     put_decimal(n, out, at)
 }
 
-// The last k digits in base 16.
+// The last k digits in base 16. A function of its own beside `put_decimal`, which ends where the number does and not at a count.
+#[tactic(auto, using(rules::specs::Laws::Text::hex_none, rules::specs::Laws::Text::hex_longer))]
 pub fn put_hex(k: usize, n: usize, out: &mut [u8], at: usize) -> usize
     requires { at + length (hex k n) < 2 ^ 64 }
     ensures { Wrote (hex k n) at out.old result out.new }

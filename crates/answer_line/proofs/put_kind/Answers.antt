@@ -2,11 +2,12 @@
 use Rattle.output.specs.Copied.{copied_append}
 use Rattle.answer_line.specs.Line.{kind_text}
 use Rattle.answer_line.proofs.put_kind.Goals as goal
-
-pub returns-then-holds : goal.returns-then-holds
-unfolding kind_text
-returns-then-holds c = rw c.if-holds.true (copied_append c.put-at.ensures c.put.ensures)
+use Rattle.answer_line.proofs.put_kind.Goals.{then-holds, else-holds}
 
 pub returns : goal.returns
 unfolding kind_text
-returns c = rw c.if-holds.false (copied_append c.put-at.ensures c.put-2.ensures)
+returns c =
+    elim c.if-holds.branch [
+      | then-holds w ↦ rw w.if-holds.true (copied_append c.put-at.ensures (rw w.said-is at c.put.ensures))
+      | else-holds w ↦ rw w.if-holds.false (copied_append c.put-at.ensures (rw w.said-is at c.put.ensures))
+    ]

@@ -1,26 +1,22 @@
-use mathlib.Core.Path.{refl, ◌∙◌}
-use native.Mathlib.Omega.{arith}
-use lib.Seq.{take_all}
+use Rattle.std.proofs.Common.{sym, eqb-true, take_all}
+use Rattle.std.proofs.lemmas.Bool.{eqb-false}
 use Rattle.output.specs.Copied.{copied_none, copied_append}
 use Rattle.answer_line.specs.Line.{hexes}
 use Rattle.answer_line.specs.Parts.{hexes_more, out_none, out_some}
 use Rattle.answer_line.proofs.put_out.Goals as goal
 
-pub returns-then-out-eq0 : goal.returns-then-out-eq0
-returns-then-out-eq0 c = rw (out_none c.args.out.now c.if-out-eq0.true) c.put.ensures
+pub returns-then-is_empty : goal.returns-then-is_empty
+returns-then-is_empty c = rw (out_none c.args.out.now (eqb-true _ _ (sym c.if-is_empty.ensures))) c.put.ensures
 
-pub loop-i-init : goal.loop-i-init
+pub loop-b-init : goal.loop-b-init
 unfolding hexes
-loop-i-init c = (omega arith, refl, copied_none _ _)
+loop-b-init c = copied_none _ _
 
-pub loop-i-preserved : goal.loop-i-preserved
-loop-i-preserved c =
-    let out = c.args.out.now in
-    let inv = c.loop-i.invariant in
-    (omega arith, c.put_pair-end.auto.line ∙ inv.1, rw (hexes_more out _ c.loop-i-test.true) (copied_append inv.2 c.put_pair-end.ensures))
+pub loop-b-preserved : goal.loop-b-preserved
+loop-b-preserved c = rw (hexes_more c.args.out.now _ c.loop-b-test.true) (copied_append c.loop-b.invariant c.put_pair-end.ensures)
 
 pub returns : goal.returns
 returns c =
-    let l = c.loop-i in
+    let l = c.loop-b in
     let out = c.args.out.now in
-    rw (out_some out c.if-out-eq0.false) (rw (take_all l.i out c.loop-i-test.false) at l.invariant.2)
+    rw (out_some out (eqb-false _ _ (sym c.if-is_empty.ensures))) (rw (take_all l.b-index out c.loop-b-test.false) at l.invariant)

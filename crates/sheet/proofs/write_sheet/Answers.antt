@@ -4,12 +4,12 @@ use Rattle.text.specs.Wrote.{from_front}
 use Rattle.sheet.specs.Printed.{sums_sheet, wrong_sheet}
 use Rattle.sheet.proofs.write_sheet.Goals as goal
 
-pub returns-in-Sum : goal.returns-in-Sum
-returns-in-Sum c =
-    let told = from_front (rw (sym (sums_sheet _ _ c.in-Sum.ensures)) at c.put_sums.ensures) in
+pub returns-in-Ok : goal.returns-in-Ok
+returns-in-Ok c =
+    let told = from_front (rw (sym (sums_sheet _ c.in-Ok.counted c.in-Ok.ensures)) at c.put_sums.ensures) in
     record { value = told.0; out_after = told.1 }
 
-pub returns-in-Wrong : goal.returns-in-Wrong
-returns-in-Wrong c =
-    let told = from_front (rw (sym (wrong_sheet _ c.in-Wrong.ensures)) at c.put_wrong.ensures) in
+pub returns-in-Err : goal.returns-in-Err
+returns-in-Err c =
+    let told = from_front (rw (sym (wrong_sheet _ c.in-Err.ensures)) at c.put_wrong.ensures) in
     record { value = told.0; out_after = told.1 }

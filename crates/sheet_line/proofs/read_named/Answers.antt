@@ -1,27 +1,20 @@
 -- The name stands at the front, or there is nothing to read; behind it stands what `read_decimal` says.
-use Rattle.std.proofs.Common.{◌≡◌, ℕ, List, ◌≤◌, length, true, sym, arith}
-use Rattle.rules.specs.Laws.Numbers.{last_part}
-use Rattle.sheet_line.specs.Numbers.{starts, starts_is, not_started, named_to, not_named}
+use Rattle.std.proofs.Common.{Some, None}
+use Rattle.std.proofs.lemmas.Bool.Decides.{Decides-eqb}
+use Rattle.std.proofs.lemmas.Slice.Eq.{strip_prefix_is}
+use Rattle.sheet_line.specs.Numbers.{not_started, named_to, not_named}
 use Rattle.sheet_line.proofs.read_named.Goals as goal
 
--- a name that stands there is inside
-inside : (name s : List ℕ) → true ≡ starts name s → length name ≤ length s
-inside name s e = (starts_is name s (sym e)).0
+pub returns-in_err-behind : goal.returns-in_err-behind
+returns-in_err-behind c =
+    rw c.from_residual.ensures (not_started _ _ _ (strip_prefix_is Decides-eqb c.args.s.now c.args.name.now None c.in_err-behind.ensures.cases))
 
-pub returns-then-not-starts : goal.returns-then-not-starts
-returns-then-not-starts c = not_started _ _ _ (cc)
+pub returns-in_err-number : goal.returns-in_err-number
+returns-in_err-number c =
+    let started = strip_prefix_is Decides-eqb c.args.s.now c.args.name.now (Some c.in_ok-behind.behind) c.in_ok-behind.ensures.cases in
+    rw c.from_residual-in_err-number.ensures (not_named _ _ _ _ started c.in_err-number.ensures)
 
-pub slice_bounds-read_decimal-start : goal.slice_bounds-read_decimal-start
-slice_bounds-read_decimal-start c = omega (arith, inside _ _ c.if-not-starts.ensures)
-
-pub slice_bounds-read_decimal-count : goal.slice_bounds-read_decimal-count
-slice_bounds-read_decimal-count c = inside _ _ c.if-not-starts.ensures
-
-pub overflow_add-behind : goal.overflow_add-behind
-overflow_add-behind c = omega (arith, (named_to _ _ _ (sym c.if-not-starts.ensures) (rw (last_part _ _) at c.in-Value.ensures)).inside)
-
-pub returns-in-Value : goal.returns-in-Value
-returns-in-Value c = named_to _ _ _ (sym c.if-not-starts.ensures) (rw (last_part _ _) at c.in-Value.ensures)
-
-pub returns-in-Other : goal.returns-in-Other
-returns-in-Other c = not_named _ _ _ (sym c.if-not-starts.ensures) (rw (last_part _ _) at c.in-Other.ensures)
+pub returns : goal.returns
+returns c =
+    let started = strip_prefix_is Decides-eqb c.args.s.now c.args.name.now (Some c.in_ok-behind.behind) c.in_ok-behind.ensures.cases in
+    named_to _ _ _ _ started c.in_ok-number.ensures
