@@ -42,7 +42,7 @@ fn count_children(s: &[u8]) -> usize
     ensures { result ≡ whole_children s.now }
 {
     let mut splitter = BoxSplitter::new(s);
-    let mut count: usize = 0;
+    let mut count = 0;
     while let Ok(_) = splitter.child_box() {
         count += 1;
     }

@@ -114,6 +114,7 @@ impl<'a> BoxSplitter<'a> {
             .map(|num| endian::loadu64(num, BoxSplitter::FRONT))
     }
 
+    // Four bytes in their order, one by one as the definition names them.
     #[tactic(auto, using(crate::specs::Taken::arrays))]
     pub fn array4(&mut self) -> Result<[u8; 4], Refusal>
         ensures value { array4_of result ≡ array4_at (held self.old) 0 }
