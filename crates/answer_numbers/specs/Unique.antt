@@ -1,9 +1,8 @@
 -- No two outcomes meet the contract of `put_answer`.
 use Rattle.std.specs.Prelude.{◌≡◌, ℕ, List, []}
-use Rattle.output.specs.Told.{told}
+use Rattle.output.specs.Told.{Extracted, told}
 use Rattle.output.specs.Copied.{Copied}
 use Rattle.output.specs.Unique.{put_one}
-use Rattle.output.specs.declared.Extracted.{Extracted}
 use Rattle.answer_numbers.specs.Numbers.{numbers_text}
 
 -- the contract of `put_answer`

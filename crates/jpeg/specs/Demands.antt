@@ -7,10 +7,9 @@ use Rattle.jpeg_rules.specs.Doc.Block.{jpeg_block, jpeg_answer}
 use Rattle.jpeg_rules.specs.Doc.Consulted.{jpeg_consulted}
 use Rattle.jpeg_rules.specs.Laws.Refusals.{jpeg_early}
 use Rattle.jpeg_rules.specs.Demands.Three.{jpeg_quiet}
-use Rattle.output.specs.Told.{told}
+use Rattle.output.specs.Told.{Extracted, told}
 use Rattle.output.specs.Demands as every
 use Rattle.output.specs.Demands.{Says}
-use Rattle.output.specs.declared.Extracted.{Extracted}
 
 -- ---- Demand 1
 

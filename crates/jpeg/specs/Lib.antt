@@ -3,6 +3,7 @@
 pub mod Told
 pub mod Markers
 pub mod Exif
+pub mod Begins
 pub mod Bodies
 pub mod Leads
 pub mod Search

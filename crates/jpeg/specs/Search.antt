@@ -113,8 +113,17 @@ module _ (s : List ℕ) (at : ℕ) (inv : found_from s at ≡ found_in s) where
   unfolding after bare found
   search_done h = rw (found_step s at, step_over s at h) at inv
 
-  pub search_next : at < length s → {o : Outcome Lead} → o ≡ lead_at s at → (o >>= after_lead s) ≡ found_in s
+  search_next : at < length s → {o : Outcome Lead} → o ≡ lead_at s at → (o >>= after_lead s) ≡ found_in s
   search_next h e = rw e (sym (found_next s at h) ∙ inv)
+
+  pub search_refused : at < length s → {n : ℕ} → refused n ≡ lead_at s at → refused n ≡ found_in s
+  search_refused h e = search_next h e
+
+  pub search_found : at < length s → {p : Span} → fine (block p) ≡ lead_at s at → fine p ≡ found_in s
+  search_found h e = search_next h e
+
+  pub search_on : at < length s → {next : ℕ} → fine (on next) ≡ lead_at s at → found_from s next ≡ found_in s
+  search_on h e = search_next h e
 
 pub on_ahead : (s : List ℕ) (at : ℕ) {next : ℕ} → fine (on next) ≡ lead_at s at → at < next
 unfolding lead_at lead_of lead_by

@@ -3,9 +3,8 @@ use Rattle.std.specs.Prelude.{◌≡◌, Bool, List, ℕ}
 use Rattle.std.proofs.Common.{sym, ◌∙◌}
 use Rattle.jpeg_rules.specs.Doc.Block.{is_jpeg, jpeg_block, jpeg_answer}
 use Rattle.jpeg_rules.specs.Laws.Refusals.{jpeg_early}
-use Rattle.output.specs.Told.{told}
+use Rattle.output.specs.Told.{Extracted, told}
 use Rattle.output.specs.Demands.{answer_one}
-use Rattle.output.specs.declared.Extracted.{Extracted}
 
 -- of `is_jpeg`
 pub jpeg_one : (s : List ℕ) {x y : Bool} → x ≡ is_jpeg s → y ≡ is_jpeg s → x ≡ y

@@ -1,6 +1,8 @@
 // Markers, under the names that the JPEG standard gives them, and where the next one stands.
 ghost use Rattle.std.specs.Prelude.{◌≡◌};
-ghost use Rattle.jpeg_rules.specs.Doc.Segments.{ends_search, lacks_length, marker_at};
+ghost use Rattle.rules.specs.Results.{perhaps};
+ghost use Rattle.jpeg_rules.specs.Doc.Segments.{ends_search, lacks_length};
+ghost use Rattle.jpeg.specs.Markers.{marker_in};
 
 // Stands before every marker; more of them are fill.
 pub(crate) const PREFIX: u8 = 0xff;
@@ -20,35 +22,24 @@ const SOS: u8 = 0xda;
 // E1, whose segment may hold Exif.
 pub(crate) const APP1: u8 = 0xe1;
 
+#[tactic(auto, using(crate::specs::Markers::ends_other, crate::specs::Markers::ends_between))]
 pub(crate) fn ends_search(marker: u8) -> bool
     ensures { result ≡ ends_search marker }
 {
-    match marker {
-        SOS | EOI => true,
-        _ => false,
-    }
+    matches!(marker, SOS | EOI)
 }
 
 // Every other marker has one, 00 too.
+#[tactic(auto, using(crate::specs::Markers::lacks_tem, crate::specs::Markers::lacks_below, crate::specs::Markers::lacks_above, crate::specs::Markers::lacks_between))]
 pub(crate) fn lacks_length(marker: u8) -> bool
     ensures { result ≡ lacks_length marker }
 {
-    match marker {
-        TEM | RST0..=RST7 => true,
-        _ => false,
-    }
+    matches!(marker, TEM | RST0..=RST7)
 }
 
-// Where the marker byte stands, behind the FF bytes from `start` on; the end of the image, if nothing else is left.
-pub(crate) fn marker_at(image: &[u8], start: usize) -> usize
-    ensures { result ≡ marker_at image.now start }
+// Where the marker byte stands, behind the FF bytes from `start` on; nowhere, if nothing else is left.
+pub(crate) fn marker_at(image: &[u8], start: usize) -> Option<usize>
+    ensures { perhaps (λ at. at) result ≡ marker_in image.now start }
 {
-    let mut at = start;
-    while at < image.len() {
-        if image[at] != PREFIX {
-            return at;
-        }
-        at += 1;
-    }
-    at
+    (start..image.len()).find(|at| image[*at] != PREFIX)
 }

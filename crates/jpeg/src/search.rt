@@ -3,31 +3,22 @@ ghost use Rattle.std.specs.Prelude.{◌≡◌};
 ghost use Rattle.jpeg.specs.Told.{found_of};
 ghost use Rattle.jpeg_rules.specs.Doc.Block.{found_in};
 
-use crate::segment::{Next, read_segment};
+use crate::segment::{Block, Next, read_segment};
 use boxes::Refusal;
 
 // Where the segments begin: behind FF D8.
 const SEGMENTS: usize = 2;
 
-// Where the block is, or why there is none.
-#[derive(Clone, Copy)]
-pub(crate) enum Found {
-    Block { from: usize, to: usize },
-    Refused(Refusal),
-}
-
-pub(crate) fn find(image: &[u8]) -> Found
+#[tactic(auto, using(crate::specs::Search::found_start, crate::specs::Search::search_refused, crate::specs::Search::search_found, crate::specs::Search::search_on, crate::specs::Search::search_done, crate::specs::Search::on_ahead))]
+pub(crate) fn find(image: &[u8]) -> Result<Block, Refusal>
     ensures { found_of result ≡ found_in image.now }
 {
     let mut at = SEGMENTS;
     while at < image.len() {
-        match read_segment(image, at) {
-            Next::Refused(e) => return Found::Refused(e),
-            Next::Block { from, to } => return Found::Block { from: from, to: to },
-            Next::On(next) => {
-                at = next;
-            }
+        match read_segment(image, at)? {
+            Next::Found(block) => return Ok(block),
+            Next::On(next) => at = next,
         }
     }
-    Found::Refused(Refusal::ImageEnds)
+    Err(Refusal::ImageEnds)
 }

@@ -1,9 +1,6 @@
--- Four texts, one behind the other.
-use Rattle.output.specs.Copied.{copied_append}
-use Rattle.answer_numbers.specs.Numbers.{numbers_text}
+-- Two texts, one behind the other, and the place behind them, or the end of the buffer.
+use Rattle.answer_numbers.specs.Numbers.{written_copied}
 use Rattle.answer_numbers.proofs.put_numbers.Goals as goal
 
 pub returns : goal.returns
-unfolding numbers_text
-returns c =
-    copied_append (copied_append c.put-at.ensures c.put_decimal-at.ensures) (copied_append c.put-at-2.ensures c.put_decimal.ensures)
+returns c = written_copied _ _ c.put_named-at.ensures c.put_named.ensures c.min.ensures
