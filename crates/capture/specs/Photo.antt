@@ -1,5 +1,5 @@
 -- From extraction to the photo, by what extraction promises alone: `r` is what it answered, `after` the output after it.
-use Rattle.std.specs.Prelude.{◌≡◌, List, ℕ, ◌≤◌, take}
+use Rattle.std.specs.Prelude.{◌≡◌, List, ℕ, ◌≤◌, take, Ok, Err}
 use Rattle.std.proofs.Math.Path.{refl, ap}
 use Rattle.std.proofs.Common.{◌∙◌, arith, length-append}
 use Rattle.std.proofs.Math.ListN.{length}
@@ -11,30 +11,29 @@ use Rattle.rules.specs.Doc.Answers.{Answer}
 use Rattle.boxes.specs.Told.{number}
 use Rattle.boxes.specs.Unique.{not_done}
 use Rattle.boxes.specs.declared.refusal.Refusal.{Refusal}
-use Rattle.output.specs.Told.{told}
-use Rattle.output.specs.declared.Extracted.{Extracted}
-use Rattle.output.specs.declared.Extracted.TheVariants.{Done, NoRoom, Refused}
+use Rattle.output.specs.Told.{Extracted, told}
+use Rattle.output.specs.declared.NoBlock.TheVariants.{NoRoom, Refused}
 use Rattle.rules.specs.Demands.One.{length_said}
 use Rattle.jpeg_rules.specs.Doc.Either.{either_answer}
 use Rattle.reader.specs.Demands.{success_only_block}
 use Rattle.capture_rules.specs.Doc.Capture.{Capture, capture, of_answer, photo}
 
 module _ (img out after : List ℕ) (r : Extracted) (meets : told r after ≡ either_answer img out) where
-  pub photo_refused : {e : Refusal} → r ≡ Refused e → refused (number e) ≡ photo img out
+  pub photo_refused : {e : Refusal} → r ≡ Err (Refused e) → refused (number e) ≡ photo img out
   unfolding photo of_answer
   photo_refused {e} f = rw (← meets, f, ne_eqb (number e) 0 (not_done e))
 
-  pub photo_no_room : {n : ℕ} → r ≡ NoRoom n → refused 28 ≡ photo img out
+  pub photo_no_room : {n : ℕ} → r ≡ Err (NoRoom n) → refused 28 ≡ photo img out
   unfolding photo of_answer
   photo_no_room f = rw (← meets, f)
 
-  module _ {n : ℕ} (f : r ≡ Done n) where
+  module _ {n : ℕ} (f : r ≡ Ok n) where
     -- the block lies in the output
     pub block_inside : n ≤ length after
     unfolding bytes_at
     block_inside =
-        let done : told (Done n) after ≡ either_answer img out = rw f at meets in
-        let w = success_only_block img out (Done n) after done refl in
+        let done : told (Ok n) after ≡ either_answer img out = rw f at meets in
+        let w = success_only_block img out (Ok n) after done refl in
         let size : n ≡ length w.positions = ap (λ (a : Answer). a.length) done ∙ length_said img out w.is_block in
         rw w.front (simp (length-append, length-map) (omega (arith, size)))
 

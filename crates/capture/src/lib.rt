@@ -17,7 +17,7 @@ use boxes::Refusal;
 use date::date_in;
 use dates::Time;
 use fraction::Fraction;
-use output::Extracted;
+use output::NoBlock;
 use pointer::exif_at;
 use tiff::{Directory, Fault};
 
@@ -101,9 +101,9 @@ pub fn from_image(image: &[u8], out: &mut [u8]) -> Result<Capture, NotRead>
     ensures out_after { out.new ≡ (either_answer image.now out.old).output }
 {
     let n = match reader::get_exif_attr(image, out) {
-        Extracted::Done(n) => n,
-        Extracted::NoRoom(_) => return Err(NotRead::NoBlock(Refusal::NoRoom)),
-        Extracted::Refused(e) => return Err(NotRead::NoBlock(e)),
+        Ok(n) => n,
+        Err(NoBlock::NoRoom(_)) => return Err(NotRead::NoBlock(Refusal::NoRoom)),
+        Err(NoBlock::Refused(e)) => return Err(NotRead::NoBlock(e)),
     };
     Ok(from_block(&out[..n])?)
 }
