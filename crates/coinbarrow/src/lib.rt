@@ -11,7 +11,7 @@ ghost use Rattle.output.specs.Told.{told};
 ghost use Rattle.coinbarrow.specs.Halves.{unpacked};
 
 use boxes::Refusal;
-use output::Extracted;
+use output::{Extracted, NoBlock};
 
 // The number in the upper half, the length in the lower: 4,294,967,296 is 2^32.
 fn packed(number: u8, length: usize) -> u64
@@ -27,9 +27,9 @@ fn packed_answer(answer: Extracted) -> u64
     ensures { (after : List ℕ) → unpacked result after ≡ told answer after }
 {
     match answer {
-        Extracted::Done(n) => packed(0, n),
-        Extracted::NoRoom(n) => packed(Refusal::NoRoom.number(), n),
-        Extracted::Refused(e) => packed(e.number(), 0),
+        Ok(n) => packed(0, n),
+        Err(NoBlock::NoRoom(n)) => packed(Refusal::NoRoom.number(), n),
+        Err(NoBlock::Refused(e)) => packed(e.number(), 0),
     }
 }
 
@@ -39,8 +39,7 @@ fn packed_answer(answer: Extracted) -> u64
 pub extern "C" fn coinbarrow_exif(image: &[u8], out: &mut [u8]) -> u64
     ensures { unpacked result out.new ≡ answer image.now out.old }
 {
-    let answer = isobmff::get_exif_attr(image, out);
-    packed_answer(answer)
+    packed_answer(isobmff::get_exif_attr(image, out))
 }
 
 // The same of a photograph that may be HEIF or JPEG. The numbers of JPEG are request three's.
@@ -48,8 +47,7 @@ pub extern "C" fn coinbarrow_exif(image: &[u8], out: &mut [u8]) -> u64
 pub extern "C" fn coinbarrow_photo(image: &[u8], out: &mut [u8]) -> u64
     ensures { unpacked result out.new ≡ either_answer image.now out.old }
 {
-    let answer = reader::get_exif_attr(image, out);
-    packed_answer(answer)
+    packed_answer(reader::get_exif_attr(image, out))
 }
 
 #[unsafe(no_mangle)]
