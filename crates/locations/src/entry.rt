@@ -32,7 +32,7 @@ fn method_size(version: u64) -> usize
     }
 }
 
-// The two bytes whose low half-byte is the construction method.
+// The two bytes whose low half-byte is the construction method. In version 0 nothing is read, so that the place is inside has to be known.
 #[tactic(auto, unfolding(rules::specs::Doc::Iloc::method_size, rules::specs::Doc::Bytes::number_at), using(rules::specs::Laws::Numbers::field_in))]
 fn parse_method(body: &[u8], at: usize, version: u64) -> Result<u64, Refusal>
     requires { at ≤ length body.now }
@@ -99,7 +99,7 @@ pub(crate) fn parse_entry(body: &[u8], table: Table, at: usize) -> Result<Entry,
     )
 }
 
-// Past an entry's extents, sizes unjudged: they need only fit.
+// Past an entry's extents, sizes unjudged: they need only fit. An entry doesn't know its body, so that it was read there is asked for.
 #[tactic(auto, unfolding(crate::specs::Reads::skipped, rules::specs::Doc::Iloc::entry_end), using(crate::specs::Reads::skip_room))]
 fn skip_extents(body: &[u8], table: Table, entry: Entry) -> Result<usize, Refusal>
     requires { EntryIn body.now (entry_in entry) }

@@ -30,7 +30,7 @@ pub(crate) fn id_size(version: u64) -> usize
     }
 }
 
-// An id, or the count of entries.
+// An id, or the count of entries. `boxes` has a function for each width, so the version is asked here too.
 #[tactic(auto, unfolding(rules::specs::Doc::Iloc::id_size))]
 pub(crate) fn parse_id(body: &[u8], at: usize, version: u64) -> Result<u64, Refusal>
     ensures { field_of result ≡ field body.now at (id_size version) }
