@@ -22,6 +22,7 @@ fn packed(number: u8, length: usize) -> u64
 }
 
 // An answer of extraction as one number; the output after the call is the same.
+#[tactic(auto, using(crate::specs::Packed::done_fits, crate::specs::Packed::room_fits, crate::specs::Packed::packed_is))]
 fn packed_answer(answer: Extracted) -> u64
     requires { (told answer []).length < 2 ^ 32 }
     ensures { (after : List ℕ) → unpacked result after ≡ told answer after }

@@ -6,8 +6,8 @@ use Rattle.coinbarrow.proofs.coinbarrow_exif.Goals as goal
 
 pub packed_answer-requires : goal.packed_answer-requires
 packed_answer-requires c =
-    let x = c.get_exif_attr-answer in
+    let x = c.get_exif_attr in
     length_fits x.result x.new.out x.ensures (length_limit _ _)
 
 pub returns : goal.returns
-returns c = c.packed_answer.ensures _ ∙ c.get_exif_attr-answer.ensures
+returns c = c.packed_answer.ensures _ ∙ c.get_exif_attr.ensures
