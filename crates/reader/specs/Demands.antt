@@ -8,10 +8,9 @@ use Rattle.jpeg_rules.specs.Doc.Consulted.{jpeg_consulted}
 use Rattle.jpeg_rules.specs.Doc.Either.{either_block, either_answer, either_consulted}
 use Rattle.jpeg_rules.specs.Laws.Refusals.{either_early}
 use Rattle.jpeg_rules.specs.Demands.Three.{either_quiet, either_quiet_jpeg}
-use Rattle.output.specs.Told.{told}
+use Rattle.output.specs.Told.{Extracted, told}
 use Rattle.output.specs.Demands as every
 use Rattle.output.specs.Demands.{Says}
-use Rattle.output.specs.declared.Extracted.{Extracted}
 
 -- ---- Demand 1
 
