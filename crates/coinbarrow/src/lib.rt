@@ -13,16 +13,15 @@ ghost use Rattle.coinbarrow.specs.Halves.{unpacked};
 use boxes::Refusal;
 use output::{Extracted, NoBlock};
 
-// The number in the upper half, the length in the lower: 4,294,967,296 is 2^32.
+// The number in the upper half, the length in the lower.
 fn packed(number: u8, length: usize) -> u64
     requires { length < 2 ^ 32 }
     ensures { (result / 2 ^ 32 ≡ number) × (result % 2 ^ 32 ≡ length) }
 {
-    number as u64 * 4294967296 + length as u64
+    (u64::from(number) << 32) | length as u64
 }
 
 // An answer of extraction as one number; the output after the call is the same.
-#[tactic(auto, using(crate::specs::Packed::done_fits, crate::specs::Packed::room_fits, crate::specs::Packed::packed_is))]
 fn packed_answer(answer: Extracted) -> u64
     requires { (told answer []).length < 2 ^ 32 }
     ensures { (after : List ℕ) → unpacked result after ≡ told answer after }
@@ -36,6 +35,7 @@ fn packed_answer(answer: Extracted) -> u64
 
 // The Exif block of `image` goes to the front of `out`; on any refusal `out` is untouched. The answer is document 01's number times 2^32, plus the
 // length.
+#[tactic(auto, using(rules::specs::Demands::One::length_limit, crate::specs::Packed::length_fits))]
 #[unsafe(no_mangle)]
 pub extern "C" fn coinbarrow_exif(image: &[u8], out: &mut [u8]) -> u64
     ensures { unpacked result out.new ≡ answer image.now out.old }
@@ -44,6 +44,7 @@ pub extern "C" fn coinbarrow_exif(image: &[u8], out: &mut [u8]) -> u64
 }
 
 // The same of a photograph that may be HEIF or JPEG. The numbers of JPEG are request three's.
+#[tactic(auto, using(jpeg_rules::specs::Demands::One::either_length, crate::specs::Packed::length_fits))]
 #[unsafe(no_mangle)]
 pub extern "C" fn coinbarrow_photo(image: &[u8], out: &mut [u8]) -> u64
     ensures { unpacked result out.new ≡ either_answer image.now out.old }

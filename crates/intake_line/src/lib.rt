@@ -32,8 +32,7 @@ fn told_line(image: &[u8], block: &mut [u8], line: &mut [u8]) -> usize
     ensures copied { Copied (line_text (told_entry (either_answer image.now block.old))) 0 line.old result line.new }
     ensures block_after { block.new ≡ (either_answer image.now block.old).output }
 {
-    let answer = reader::get_exif_attr(image, block);
-    put_line(answer, line)
+    put_line(reader::get_exif_attr(image, block), line)
 }
 
 // Extracts the block of `image` to the front of `block`, and puts the line at the front of `line`. The answer is the line's length.

@@ -9,6 +9,7 @@ use boxes::Refusal;
 // Where the segments begin: behind FF D8.
 const SEGMENTS: usize = 2;
 
+// Each segment says where the next one begins: so no index is counted here.
 #[tactic(auto, using(crate::specs::Search::found_start, crate::specs::Search::search_refused, crate::specs::Search::search_found, crate::specs::Search::search_on, crate::specs::Search::search_done, crate::specs::Search::on_ahead))]
 pub(crate) fn find(image: &[u8]) -> Result<Block, Refusal>
     ensures { found_of result ≡ found_in image.now }
