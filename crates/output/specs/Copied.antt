@@ -1,6 +1,6 @@
 -- What it is to copy bytes to a buffer from a place on, as many as there is room for; and that parts copied one behind the other are one copy.
-use Rattle.std.specs.Prelude.{◌≡◌, refl, ◌⊎◌, min, Bool, true, false, List, ◌++◌, ℕ, ◌+◌, ◌-◌, ◌≤◌, leb, length, take, drop}
-use Rattle.std.proofs.Common.{sym, ap, ◌∙◌, arith, inl, inr, length-take, length-append, length-take-le, take_all, take-append-drop, append_assoc, drop-drop, drop_of_length-le, leb-true, leb-false}
+use Rattle.std.specs.Prelude.{[], ◌≡◌, refl, ◌⊎◌, min, Bool, true, false, List, ◌++◌, ℕ, ◌+◌, ◌-◌, ◌≤◌, leb, length, take, drop}
+use Rattle.std.proofs.Common.{sym, ap, ◌∙◌, arith, inl, inr, length-take, length-append, length-take-le, take_all, take-append-drop, append_assoc, drop-drop, leb-true, leb-false}
 use Rattle.std.proofs.Math.Seq.{length-sets, take-nil}
 use Rattle.std.proofs.Math.Decide.{dec_le}
 use Rattle.std.proofs.lemmas.List.Edits.{sets, sets-eq}
@@ -14,14 +14,13 @@ pub record Copied (bytes : List ℕ) (at : ℕ) (before : List ℕ) (end : ℕ) 
 
 -- ---- One copy
 
--- where there is nothing to copy, or no room
-pub copied_none : (part : List ℕ) (skip at : ℕ) (out : List ℕ) → (length part ≤ skip) ⊎ (length out ≤ at) → Copied (drop skip part) at out at out
-copied_none part skip at out (inl h) =
-    rw (drop_of_length-le part h)
-    (record { place = rw (take-nil (length out - at)) (omega arith); buffer = refl })
-copied_none part skip at out (inr h) =
+pub copied_none : (at : ℕ) (out : List ℕ) → Copied [] at out at out
+copied_none at out = record { place = rw (take-nil (length out - at)) (omega arith); buffer = refl }
+
+pub copied_full : (bytes : List ℕ) (at : ℕ) (out : List ℕ) → length out ≤ at → Copied bytes at out at out
+copied_full bytes at out h =
     let none : length out - at ≡ 0 = omega arith in
-    record { place = rw none (omega arith); buffer = sym (over_full out at (drop skip part) h) }
+    record { place = rw none (omega arith); buffer = sym (over_full out at bytes h) }
 
 -- what is laid over the output is the first n bytes, where n are as many as there is room for
 over_first : (bytes : List ℕ) (at n : ℕ) (out : List ℕ) → (n ≡ length bytes) ⊎ (length out ≤ at + n) → n ≤ length bytes

@@ -1,17 +1,19 @@
 -- The rest of the part is all from `skip` on, and as much of it as there is room for is laid over the output (`copied_room`).
-use mathlib.Core.Logic.{⊎_elim, inl, inr}
+use mathlib.Core.Logic.{⊎_elim}
 use mathlib.Core.Path.{◌≡◌, refl}
 use Prim.Native.Nat.{◌+◌, ◌-◌}
-use lib.ListN.{length}
+use lib.ListN.{length, drop, drop_of_length-le}
 use native.Mathlib.Omega.{arith}
 use Rattle.std.proofs.lemmas.Slice.{between_to_end}
-use Rattle.output.specs.Copied.{copied_none, copied_room}
+use Rattle.output.specs.Copied.{copied_none, copied_full, copied_room}
 use Rattle.output.proofs.put.Goals as goal
 
 pub returns-then-part-skip : goal.returns-then-part-skip
 returns-then-part-skip c =
     let a = c.args in
-    copied_none a.part.now a.skip a.at a.out.now (⊎_elim (λ h. inl h) (λ h. inr h.1) c.then-part-skip.either)
+    ⊎_elim (λ h. rw (drop_of_length-le {i = a.skip} a.part.now h) (copied_none a.at a.out.now))
+    (λ h. copied_full (drop a.skip a.part.now) a.at a.out.now h.1)
+    c.then-part-skip.either
 
 pub returns : goal.returns
 returns c =
