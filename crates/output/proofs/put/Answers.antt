@@ -1,5 +1,6 @@
 -- The rest of the part is all from `skip` on, and as much of it as there is room for is laid over the output (`copied_room`).
 use mathlib.Core.Logic.{⊎_elim}
+use mathlib.Core.List.{[]}
 use mathlib.Core.Path.{◌≡◌, refl}
 use Prim.Native.Nat.{◌+◌, ◌-◌}
 use lib.ListN.{length, drop, drop_of_length-le}
@@ -11,7 +12,8 @@ use Rattle.output.proofs.put.Goals as goal
 pub returns-then-part-skip : goal.returns-then-part-skip
 returns-then-part-skip c =
     let a = c.args in
-    ⊎_elim (λ h. rw (drop_of_length-le {i = a.skip} a.part.now h) (copied_none a.at a.out.now))
+    ⊎_elim
+    (λ h. let none : drop a.skip a.part.now ≡ [] = drop_of_length-le a.part.now h in rw none (copied_none a.at a.out.now))
     (λ h. copied_full (drop a.skip a.part.now) a.at a.out.now h.1)
     c.then-part-skip.either
 
