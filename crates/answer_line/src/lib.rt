@@ -2,7 +2,7 @@
 // is room for, and answers the place behind the last byte.
 #![tactic(auto)]
 
-ghost use Rattle.std.specs.Prelude.{◌≡◌, IsTrue, length, take};
+ghost use Rattle.std.specs.Prelude.{◌≡◌, OnOk, length, take};
 ghost use Rattle.std.specs.Io.KnownBytes.{Appends};
 ghost use Rattle.rules.specs.Doc.Text.{hex};
 ghost use Rattle.rules.specs.Doc.Listing.{printed};
@@ -11,6 +11,7 @@ ghost use Rattle.output.specs.Copied.{Copied};
 ghost use Rattle.answer_line.specs.Line.{out_text, kind_text, answer_text};
 
 use output::{Extracted, put};
+use std::io;
 use std::io::Write;
 use streams::write_all;
 use text::digit;
@@ -53,7 +54,7 @@ fn of_answer(answer: Extracted, word: &[u8], holds: bool, out: &[u8], line: &mut
     put(b"\n", 0, line, at)
 }
 
-// The line to a writer, made in `line`; the answer is whether all of it was written.
+// The line to a writer, made in `line`.
 #[tactic(auto, using(crate::specs::Parts::copied_front))]
 pub fn print_line<W: Write>(
     answer: Extracted,
@@ -62,10 +63,10 @@ pub fn print_line<W: Write>(
     out: &[u8],
     line: &mut [u8],
     writer: &mut W,
-) -> bool
+) -> io::Result<()>
     ensures line_after { line.new ≡ printed (answer_text (told answer out.now) word.now holds) line.old }
-    ensures written { IsTrue result → Appends (W.contents writer.old) (W.contents writer.new)
-        (take (length line.old) (answer_text (told answer out.now) word.now holds)) }
+    ensures written { OnOk result (Appends (W.contents writer.old) (W.contents writer.new)
+        (take (length line.old) (answer_text (told answer out.now) word.now holds))) }
 {
     let n = of_answer(answer, word, holds, out, line);
     write_all(&line[..n], writer)

@@ -4,7 +4,7 @@
 mod bias;
 mod time;
 
-ghost use Rattle.std.specs.Prelude.{◌≡◌, ◌++◌, ◌≤◌, length, drop, IsTrue};
+ghost use Rattle.std.specs.Prelude.{◌≡◌, ◌++◌, ◌≤◌, length, drop, OnOk};
 ghost use Rattle.std.specs.Io.KnownBytes.{Appends};
 ghost use Rattle.rules.specs.Doc.Outcomes.{fine, refused};
 ghost use Rattle.jpeg_rules.specs.Doc.Either.{either_answer};
@@ -17,6 +17,7 @@ ghost use Rattle.capture_line.specs.Printable.{PrintableLine};
 
 use bias::put_bias;
 use capture::{Capture, NotRead};
+use std::io;
 use std::io::Write;
 use streams::write_all;
 use time::put_time;
@@ -76,10 +77,10 @@ pub fn photo_line_whole(image: &[u8], block: &mut [u8], out: &mut [u8; LONGEST_L
     photo_line(image, block, out)
 }
 
-// The line to a writer; the answer is whether all of it was written.
-pub fn print_line<W: Write>(image: &[u8], block: &mut [u8], writer: &mut W) -> bool
+// The line to a writer.
+pub fn print_line<W: Write>(image: &[u8], block: &mut [u8], writer: &mut W) -> io::Result<()>
     ensures block_after { block.new ≡ (either_answer image.now block.old).output }
-    ensures written { IsTrue result → Appends (W.contents writer.old) (W.contents writer.new) (line_text (photo image.now block.old)) }
+    ensures written { OnOk result (Appends (W.contents writer.old) (W.contents writer.new) (line_text (photo image.now block.old))) }
 {
     let mut line = [0u8; LONGEST_LINE];
     let n = photo_line_whole(image, block, &mut line);

@@ -19,8 +19,12 @@ const BEFORE: u8 = 0xa5;
 
 const BEFORE_TEXT: u8 = b'.';
 
-// The answer, here and below, is whether to go on: whether standard output took what was printed.
-fn show_heif<W: Write>(image: &[u8], out: &mut [u8], line: &mut [u8], writer: &mut W) -> bool {
+fn show_heif<W: Write>(
+    image: &[u8],
+    out: &mut [u8],
+    line: &mut [u8],
+    writer: &mut W,
+) -> io::Result<()> {
     case_reader::fill(BEFORE, out);
     let answered = isobmff::get_exif_attr(image, out);
     answer_line::print_line(
@@ -33,36 +37,28 @@ fn show_heif<W: Write>(image: &[u8], out: &mut [u8], line: &mut [u8], writer: &m
     )
 }
 
-fn show_jpeg<W: Write>(image: &[u8], out: &mut [u8], line: &mut [u8], writer: &mut W) -> bool {
+fn show_jpeg<W: Write>(
+    image: &[u8],
+    out: &mut [u8],
+    line: &mut [u8],
+    writer: &mut W,
+) -> io::Result<()> {
     case_reader::fill(BEFORE, out);
     let answered = jpeg::get_exif_attr(image, out);
     answer_line::print_line(answered, b" jpeg=", jpeg::is_jpeg(image), out, line, writer)
 }
 
-fn print_number<W: Write>(case: u64, writer: &mut W) -> io::Result<()> {
-    write!(writer, "case={case}")
-}
-
-fn print_listing<W: Write>(case: u64, length: usize, out: &[u8], writer: &mut W) -> io::Result<()> {
-    print_number(case, writer)?;
-    writeln!(writer, " length={length}")?;
-    writer.write_all(out)?;
-    writeln!(writer)
-}
-
-fn show_listing<W: Write>(case: u64, image: &[u8], out: &mut [u8], writer: &mut W) -> bool {
+fn show_listing<W: Write>(
+    case: u64,
+    image: &[u8],
+    out: &mut [u8],
+    writer: &mut W,
+) -> io::Result<()> {
     case_reader::fill(BEFORE_TEXT, out);
     let length = listing::list_boxes(image, out);
-    print_listing(case, length, out, writer).is_ok()
-}
-
-fn print_unknown<W: Write>(case: u64, writer: &mut W) -> io::Result<()> {
-    print_number(case, writer)?;
-    writeln!(writer, " unknown")
-}
-
-fn show_unknown<W: Write>(case: u64, writer: &mut W) -> bool {
-    print_unknown(case, writer).is_ok()
+    writeln!(writer, "case={case} length={length}")?;
+    writer.write_all(out)?;
+    writeln!(writer)
 }
 
 fn show<W: Write>(
@@ -72,17 +68,17 @@ fn show<W: Write>(
     out: &mut [u8],
     line: &mut [u8],
     writer: &mut W,
-) -> bool {
+) -> io::Result<()> {
     match kind {
         b'h' => show_heif(image, out, line, writer),
         b'j' => show_jpeg(image, out, line, writer),
         b'l' => show_listing(case, image, out, writer),
         b't' => capture_line::print_line(image, out, writer),
-        _ => show_unknown(case, writer),
+        _ => writeln!(writer, "case={case} unknown"),
     }
 }
 
-// Reads one case and shows it, and says whether to go on.
+// Reads one case and shows it, and says whether to go on: the run ends where standard output takes no more.
 fn one<R: Read, W: Write>(
     case: u64,
     image: &mut [u8],
@@ -94,14 +90,15 @@ fn one<R: Read, W: Write>(
     let Some(next) = case_reader::next_case(case, image, out.len(), reader, writer)? else {
         return Ok(false);
     };
-    Ok(show(
+    let shown = show(
         case,
         next.kind,
         &image[..next.image_len],
         &mut out[..next.out_len],
         line,
         writer,
-    ))
+    );
+    Ok(shown.is_ok())
 }
 
 // A proved loop has to end, and nothing says that standard input does. So the loop counts the cases, up to a number that no run reaches.

@@ -96,7 +96,7 @@ fn take_file<S: Files, W: Write, E: Write>(
     let Some(n) = read else {
         return true;
     };
-    intake_line::print_line(&image[..n], block, writer)
+    intake_line::print_line(&image[..n], block, writer).is_ok()
 }
 
 // Behind the last argument there is nothing to go on with.

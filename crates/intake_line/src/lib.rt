@@ -1,7 +1,7 @@
 // The line that the intake writes for a file, HEIF or JPEG, as text in a lent buffer.
 #![tactic(auto)]
 
-ghost use Rattle.std.specs.Prelude.{◌≡◌, List, ◌++◌, ℕ, ◌≤◌, length, drop, IsTrue};
+ghost use Rattle.std.specs.Prelude.{◌≡◌, List, ◌++◌, ℕ, ◌≤◌, length, drop, OnOk};
 ghost use Rattle.std.specs.Io.KnownBytes.{Appends};
 ghost use Rattle.jpeg_rules.specs.Doc.Either.{either_answer};
 ghost use Rattle.sheet_rules.specs.Doc.Lines.{line_text};
@@ -11,6 +11,7 @@ ghost use Rattle.intake_line.specs.Line.{intake_text};
 ghost use Rattle.intake_line.specs.Told.{told_entry};
 
 use output::Extracted;
+use std::io;
 use std::io::Write;
 use streams::write_all;
 
@@ -48,10 +49,14 @@ pub fn file_line(
     told_line(image, block, line)
 }
 
-// The line to a writer; the answer is whether all of it was written.
-pub fn print_line<W: Write>(image: &[u8], block: &mut [u8; LONGEST_BLOCK], writer: &mut W) -> bool
+// The line to a writer.
+pub fn print_line<W: Write>(
+    image: &[u8],
+    block: &mut [u8; LONGEST_BLOCK],
+    writer: &mut W,
+) -> io::Result<()>
     ensures block_after { block.new ≡ (either_answer image.now block.old).output }
-    ensures written { IsTrue result → Appends (W.contents writer.old) (W.contents writer.new) (intake_text image.now) }
+    ensures written { OnOk result (Appends (W.contents writer.old) (W.contents writer.new) (intake_text image.now)) }
 {
     let mut line = [0u8; LONGEST_LINE];
     let n = file_line(image, block, &mut line);

@@ -14,9 +14,10 @@ const MOST_IMAGE: usize = LONGEST + 1;
 // No block is longer, so extraction always has room.
 const MOST_BLOCK: usize = 65531;
 
+// The arrays live on the stack of `main`, once.
 fn run<R: Read, W: Write, E: Write>(
-    image: &mut [u8],
-    block: &mut [u8],
+    image: &mut [u8; MOST_IMAGE],
+    block: &mut [u8; MOST_BLOCK],
     reader: &mut R,
     writer: &mut W,
     errors: &mut E,
@@ -25,25 +26,15 @@ fn run<R: Read, W: Write, E: Write>(
     if LONGEST < n {
         return errors.write_all(b"photo_time: the image is longer than 6291456 bytes\n");
     }
-    capture_line::print_line(&image[..n], block, writer);
+    // What standard output doesn't take is lost.
+    let _ = capture_line::print_line(&image[..n], block, writer);
     Ok(())
-}
-
-// Lends the arrays as slices: they live on the stack of `main`, once.
-fn lend<R: Read, W: Write, E: Write>(
-    image: &mut [u8; MOST_IMAGE],
-    block: &mut [u8; MOST_BLOCK],
-    reader: &mut R,
-    writer: &mut W,
-    errors: &mut E,
-) -> io::Result<()> {
-    run(image, block, reader, writer, errors)
 }
 
 fn main(rt: HostRuntime) -> io::Result<()> {
     let mut image = [0u8; MOST_IMAGE];
     let mut block = [0u8; MOST_BLOCK];
-    lend(
+    run(
         &mut image,
         &mut block,
         &mut rt.stdin(),

@@ -1,7 +1,7 @@
 // Reading an input into a lent buffer, and writing whole.
 #![tactic(auto)]
 
-ghost use Rattle.std.specs.Prelude.{◌≡◌, ◌≤◌, ◌<◌, length, take, IfOk, OnErr, IsTrue};
+ghost use Rattle.std.specs.Prelude.{◌≡◌, ◌≤◌, ◌<◌, length, take, IfOk, OnOk, OnErr};
 ghost use Rattle.std.specs.Io.KnownBytes.{Appends, Consumes, IsAtEnd};
 
 use std::io;
@@ -26,9 +26,9 @@ pub fn read_full<R: Read>(reader: &mut R, buf: &mut [u8]) -> io::Result<usize>
     Ok(done)
 }
 
-// Writes all of `bytes`, and answers whether all of it was written; where a write fails, some of it may have been.
-pub fn write_all<W: Write>(bytes: &[u8], writer: &mut W) -> bool
-    ensures { IsTrue result → Appends (W.contents writer.old) (W.contents writer.new) bytes.now }
+// Writes all of `bytes`; where a write fails, some of it may have been written.
+pub fn write_all<W: Write>(bytes: &[u8], writer: &mut W) -> io::Result<()>
+    ensures { OnOk result (Appends (W.contents writer.old) (W.contents writer.new) bytes.now) }
 {
-    writer.write_all(bytes).is_ok()
+    writer.write_all(bytes)
 }
