@@ -8,7 +8,7 @@ use Rattle.std.proofs.lemmas.Iterator.Splits.{YieldsList-from_shown_while}
 use Rattle.std.proofs.Math.ListN.{get_or-append}
 use Rattle.std.proofs.Math.Seq.{drop-append_seam}
 use Rattle.std.proofs.Math.Path.{refl, ap}
-use Rattle.std.proofs.Common.{sym, ◌∙◌, add_assoc, get_or-drop, length-append, length-drop, take_all}
+use Rattle.std.proofs.Common.{sym, ◌∙◌, add_assoc, length-append, length-drop, take_all}
 use Rattle.std.proofs.Math.Bool.{true, false}
 use Prim.Native.Nat.{ℕ, zero, suc, ◌+◌, ◌-◌, ◌/◌, ◌≤◌, ◌<◌}
 use native.Mathlib.Omega.{arith}
@@ -20,6 +20,7 @@ use Rattle.rules.specs.Doc.Headers.{ftyp, Box, is, child_at}
 use Rattle.rules.specs.Doc.Levels.{tested}
 use Rattle.rules.specs.Doc.Ftyp.{known, brands_from, brand_test}
 use Rattle.rules.specs.Doc.Heif.{heif_level, is_heif}
+use Rattle.rules.specs.Laws.Moved.{number_moved}
 use Rattle.rules.specs.Laws.Agreement.{number_same}
 use Rattle.rules.specs.Laws.Fold.{stop_from, stop_next, stop_done}
 use Rattle.boxes.specs.Loops.{WholeBox}
@@ -30,15 +31,10 @@ use Rattle.boxes.specs.Loops.{WholeBox}
 unfoldable pub brands : List ℕ → List ℕ
 brands s = brands_from s 0 (length s / 4)
 
-number_behind : (k : ℕ) (s : List ℕ) (at n : ℕ) → number_at s (k + at) n ≡ number_at (drop k s) at n
-unfolding number_at
-number_behind k s at zero = refl
-number_behind k s at (suc n) = rw (number_behind k s at n, get_or-drop k s (at + n) 0, add_assoc)
-
 brands_behind : (k : ℕ) (s : List ℕ) (at n : ℕ) → brands_from s (k + at) n ≡ brands_from (drop k s) at n
 unfolding brands_from
 brands_behind k s at zero = refl
-brands_behind k s at (suc n) = rw (number_behind k s at 4, add_assoc, brands_behind k s (at + 4) n)
+brands_behind k s at (suc n) = rw (number_moved k s at 4, add_assoc, brands_behind k s (at + 4) n)
 
 -- four bytes, and what follows them
 pub brands_next : (x rest : List ℕ) → length x ≡ 4 → brands (x ++ rest) ≡ number_at x 0 4 ∷ brands rest

@@ -1,6 +1,6 @@
 -- Steps 2 to 10 over bytes, by the parts that each function of the code is lent, where document 01's definitions have positions in the image.
 -- Laws/Gather and Laws/Lent show that the two say the same.
-use Rattle.std.specs.Prelude.{ℕ, ◌+◌, Bool, true, false, List, [], ◌∷◌, length, ltb, if◌then◌else◌}
+use Rattle.std.specs.Prelude.{ℕ, ◌+◌, List, [], ◌∷◌, length, ltb, if◌then◌else◌}
 use Rattle.std.proofs.Math.Option.{Option, none, some}
 use Rattle.rules.specs.Doc.Outcomes.{Outcome, fine, refused, ◌>>=◌, once}
 use Rattle.rules.specs.Doc.Lists.{each}
@@ -42,11 +42,6 @@ unfoldable pub block_from : (Extent → Outcome Span) → List ℕ → List Exte
 block_from place s xs = total_from place 0 xs >>= λ t. block_of (gathered place s xs)
 
 -- ---- An item
-
--- an `idat` that may be there
-unfoldable pub store_of : Bool → List ℕ → Option (List ℕ)
-store_of true s = some s
-store_of false s = none
 
 -- steps 9 and 10 for a chosen entry of the table
 unfoldable pub chosen_block : List ℕ → Option (List ℕ) → List ℕ → Chosen → Outcome (List ℕ)

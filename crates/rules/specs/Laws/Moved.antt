@@ -33,7 +33,8 @@ same_test a b c d f g = go (leb c d) refl
     go true e = le-leb a b (f (leb-true c d e))
     go false e = lt-leb a b (g (leb-false c d e))
 
-number_moved : (k : ℕ) (s : List ℕ) (at n : ℕ) → number_at s (k + at) n ≡ number_at (drop k s) at n
+-- a number stands in what follows k bytes, that much further in front
+pub number_moved : (k : ℕ) (s : List ℕ) (at n : ℕ) → number_at s (k + at) n ≡ number_at (drop k s) at n
 unfolding number_at
 number_moved k s at zero = refl
 number_moved k s at (suc n) = rw (number_moved k s at n, get_or-drop k s (at + n) 0, add_assoc)
