@@ -39,6 +39,7 @@ pub enum Refusal {
     SegmentTooSmall = 33,
 }
 
+// `Fault` of crates/tiff has a `number` too: a trait for the two would be longer than they are.
 impl Refusal {
     pub fn number(self) -> u8
         ensures { result ≡ number self }

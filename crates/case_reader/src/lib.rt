@@ -64,7 +64,8 @@ pub fn next_case<R: Read, W: Write>(
     }))
 }
 
-// What an output holds before it is lent: one byte everywhere, so that what was written and what was left alone can be told apart.
+// What an output holds before it is lent: one byte everywhere, so that what was written and what was left alone can be told apart. The library's
+// `fill`, by a name that says what for.
 pub fn fill(byte: u8, out: &mut [u8])
     ensures { out.new ≡ replicate (length out.old) byte }
 {

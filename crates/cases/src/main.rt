@@ -61,6 +61,7 @@ fn show_listing<W: Write>(
     writeln!(writer)
 }
 
+// A match and no table of functions: each kind asks for other arguments.
 fn show<W: Write>(
     case: u64,
     kind: u8,

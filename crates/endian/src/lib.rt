@@ -36,6 +36,7 @@ fn load(order: Endian, buf: &[u8], from: usize, n: usize) -> u64
     num
 }
 
+// Here and below one load for each width, as the Rust has them, each with its own type; the loop is one, `load`.
 impl Endian {
     pub fn loadu16(self, buf: &[u8], from: usize) -> u16
         requires { from + 2 ≤ length buf.now }

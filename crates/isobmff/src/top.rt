@@ -6,7 +6,8 @@ ghost use Rattle.isobmff.specs.Top.{whole_to, ftyp_over, meta_over, box_over, op
 use crate::span::Span;
 use boxes::{FTYP, META, Refusal};
 
-// Where a body of the file ends, if the image holds all of it.
+// Where a body of the file ends, if the image holds all of it. Here and in the next two functions the body has to begin inside: a type of its own for
+// what that makes of an image and a box would be longer than the three lines.
 #[tactic(auto, using(crate::specs::Top::to_cut, crate::specs::Top::to_whole))]
 fn read_file_level_box(image: &[u8], from: usize, size: u64) -> Result<usize, Refusal>
     requires { from ≤ length image.now }

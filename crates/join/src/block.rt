@@ -21,7 +21,7 @@ fn source_len(image: &[u8], idat: &[u8], method: u64) -> usize
     }
 }
 
-// The block of a location with method 0 or 1. Nothing is written before it is certain that all of it will be.
+// The block of a location with method 0 or 1, from two slices, of which the method names one (document 01). Nothing is written before it is certain that all of it will be.
 #[tactic(auto, using(crate::specs::Answers::block_refused))]
 fn extract_joined<'a>(
     image: &'a [u8],

@@ -8,6 +8,7 @@ use std::io;
 use std::io::{Read, Write};
 use streams::read_full;
 
+// A function of its own, so that what is asked of `n` is shown where it is called.
 fn show<W: Write>(text: &[u8], n: usize, writer: &mut W) -> io::Result<()>
     requires { n ≤ length text.now }
 {

@@ -39,7 +39,7 @@ fn digit_at(s: &[u8], i: usize) -> Option<usize>
     }
 }
 
-// A plain decimal at the front.
+// A plain decimal at the front. `end` is counted by hand, since it is half of the answer: how many bytes the number takes.
 fn read_decimal(s: &[u8], most: usize) -> Option<Number>
     requires { most ≤ 65535 }
     ensures { Named [] most s.now result }

@@ -1,5 +1,6 @@
 // Text into a lent buffer. Each function writes from a position on, as much as there is room for, and answers the place behind its text, past the
-// end of a buffer that is too short. So of texts one behind the other, from 0 on, the last place is the length of them all.
+// end of a buffer that is too short. So of texts one behind the other, from 0 on, the last place is the length of them all. (A struct of buffer and
+// place would have to promise in every contract that it still holds the same buffer.)
 #![tactic(auto)]
 
 ghost use Rattle.std.specs.Prelude.{◌≡◌, ◌+◌, ◌^◌, ◌<◌, [], ◌∷◌, ◌++◌, length};
