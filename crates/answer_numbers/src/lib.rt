@@ -7,8 +7,7 @@ ghost use Rattle.output.specs.Told.{told};
 ghost use Rattle.output.specs.Copied.{Copied};
 ghost use Rattle.answer_numbers.specs.Numbers.{numbers_text};
 
-use boxes::Refusal;
-use output::{Extracted, NoBlock};
+use output::Extracted;
 use text::put_named;
 
 // The place behind a text that was cut is the end of the buffer.
@@ -24,10 +23,6 @@ fn put_numbers(number: usize, length: usize, line: &mut [u8]) -> usize
 pub fn put_answer(answer: Extracted, line: &mut [u8]) -> usize
     ensures { (out : List ℕ) → Copied (numbers_text (told answer out).number (told answer out).length) 0 line.old result line.new }
 {
-    let (number, length) = match answer {
-        Ok(block) => (0, block),
-        Err(NoBlock::NoRoom(needed)) => (Refusal::NoRoom.number(), needed),
-        Err(NoBlock::Refused(refusal)) => (refusal.number(), 0),
-    };
+    let (number, length) = output::numbers(answer);
     put_numbers(number as usize, length, line)
 }

@@ -10,8 +10,7 @@ ghost use Rattle.sheet_rules.specs.Doc.Sheet.{sheet};
 ghost use Rattle.output.specs.Told.{told};
 ghost use Rattle.coinbarrow.specs.Halves.{unpacked};
 
-use boxes::Refusal;
-use output::{Extracted, NoBlock};
+use output::Extracted;
 
 // The number in the upper half, the length in the lower.
 fn packed(number: u8, length: usize) -> u64
@@ -26,11 +25,8 @@ fn packed_answer(answer: Extracted) -> u64
     requires { (told answer []).length < 2 ^ 32 }
     ensures { (after : List ℕ) → unpacked result after ≡ told answer after }
 {
-    match answer {
-        Ok(n) => packed(0, n),
-        Err(NoBlock::NoRoom(n)) => packed(Refusal::NoRoom.number(), n),
-        Err(NoBlock::Refused(e)) => packed(e.number(), 0),
-    }
+    let (number, length) = output::numbers(answer);
+    packed(number, length)
 }
 
 // The Exif block of `image` goes to the front of `out`; on any refusal `out` is untouched. The answer is document 01's number times 2^32, plus the

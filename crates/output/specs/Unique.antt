@@ -1,5 +1,5 @@
 -- No two outcomes, answer and output together, meet a contract of this crate.
-use Rattle.std.specs.Prelude.{◌≡◌, refl, List, ℕ, ◌<◌, eqb, if◌then◌else◌, Ok, Err}
+use Rattle.std.specs.Prelude.{[], ◌≡◌, refl, List, ℕ, ◌<◌, eqb, if◌then◌else◌, Ok, Err}
 use Rattle.std.proofs.Common.{sym, ap, ◌∙◌, arith, ne_eqb}
 use Rattle.rules.specs.Doc.Outcomes.{fine}
 use Rattle.rules.specs.Doc.Answers.{Answer}
@@ -43,6 +43,11 @@ told_one {a} h x y after after' e f = (
     back x out e = extracted_back x out (rw e h)
 
 -- ---- The functions
+
+-- of `numbers`
+pub numbers_one : (x : Extracted) {n m n' m' : ℕ} → ((out : List ℕ) → (n ≡ (told x out).number) × (m ≡ (told x out).length))
+    → ((out : List ℕ) → (n' ≡ (told x out).number) × (m' ≡ (told x out).length)) → (n ≡ n') × (m ≡ m')
+numbers_one x p q = ((p []).0 ∙ sym (q []).0, (p []).1 ∙ sym (q []).1)
 
 -- of `put`
 pub put_one : {bytes : List ℕ} {at : ℕ} {before : List ℕ} {r r' : ℕ} {after after' : List ℕ}

@@ -1,7 +1,7 @@
 // The answer of extraction, whatever kind of image the block is from; the copy of bytes to the output, and the room for them.
 #![tactic(auto)]
 
-ghost use Rattle.std.specs.Prelude.{◌≡◌, drop};
+ghost use Rattle.std.specs.Prelude.{◌≡◌, ℕ, List, drop};
 ghost use Rattle.rules.specs.Doc.Outcomes.{fine};
 ghost use Rattle.rules.specs.OverBytes.{answer_of};
 ghost use Rattle.output.specs.Told.{told};
@@ -28,6 +28,17 @@ impl From<Refusal> for NoBlock {
 
 // The block's length, or why there is no block.
 pub type Extracted = Result<usize, NoBlock>;
+
+// The number of an answer, and the length beside it: only 0 and 28 have one.
+pub fn numbers(answer: Extracted) -> (u8, usize)
+    ensures { (out : List ℕ) → (result.0 ≡ (told answer out).number) × (result.1 ≡ (told answer out).length) }
+{
+    match answer {
+        Ok(block) => (0, block),
+        Err(NoBlock::NoRoom(needed)) => (Refusal::NoRoom.number(), needed),
+        Err(NoBlock::Refused(refusal)) => (refusal.number(), 0),
+    }
+}
 
 // Copies the bytes of `part` from `skip` on to `out` from `at` on, as many as there is room for, and answers the place after the last.
 pub fn put(part: &[u8], skip: usize, out: &mut [u8], at: usize) -> usize
