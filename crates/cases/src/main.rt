@@ -3,6 +3,7 @@
 #![tactic(auto)]
 
 use listing::LONGEST_TEXT;
+use output::Extracted;
 use std::io;
 use std::io::{Read, Write};
 
@@ -19,33 +20,21 @@ const BEFORE: u8 = 0xa5;
 
 const BEFORE_TEXT: u8 = b'.';
 
-fn show_heif<W: Write>(
+// Which block an image holds, if it is of the kind: the line has the kind's word.
+fn show_block<E: FnOnce(&[u8], &mut [u8]) -> Extracted, W: Write>(
+    extract: E,
+    word: &[u8],
+    holds: bool,
     image: &[u8],
     out: &mut [u8],
     line: &mut [u8],
     writer: &mut W,
-) -> io::Result<()> {
+) -> io::Result<()>
+    requires { E.IsAlwaysCallable extract }
+{
     case_reader::fill(BEFORE, out);
-    let answered = isobmff::get_exif_attr(image, out);
-    answer_line::print_line(
-        answered,
-        b" heif=",
-        brands::is_heif(image),
-        out,
-        line,
-        writer,
-    )
-}
-
-fn show_jpeg<W: Write>(
-    image: &[u8],
-    out: &mut [u8],
-    line: &mut [u8],
-    writer: &mut W,
-) -> io::Result<()> {
-    case_reader::fill(BEFORE, out);
-    let answered = jpeg::get_exif_attr(image, out);
-    answer_line::print_line(answered, b" jpeg=", jpeg::is_jpeg(image), out, line, writer)
+    let answered = extract(image, out);
+    answer_line::print_line(answered, word, holds, out, line, writer)
 }
 
 fn show_listing<W: Write>(
@@ -61,7 +50,7 @@ fn show_listing<W: Write>(
     writeln!(writer)
 }
 
-// A match and no table of functions: each kind asks for other arguments.
+// A match and no table of functions: a listing and a photograph's line ask for other arguments than a block.
 fn show<W: Write>(
     case: u64,
     kind: u8,
@@ -71,8 +60,24 @@ fn show<W: Write>(
     writer: &mut W,
 ) -> io::Result<()> {
     match kind {
-        b'h' => show_heif(image, out, line, writer),
-        b'j' => show_jpeg(image, out, line, writer),
+        b'h' => show_block(
+            isobmff::get_exif_attr,
+            b" heif=",
+            brands::is_heif(image),
+            image,
+            out,
+            line,
+            writer,
+        ),
+        b'j' => show_block(
+            jpeg::get_exif_attr,
+            b" jpeg=",
+            jpeg::is_jpeg(image),
+            image,
+            out,
+            line,
+            writer,
+        ),
         b'l' => show_listing(case, image, out, writer),
         b't' => capture_line::print_line(image, out, writer),
         _ => writeln!(writer, "case={case} unknown"),

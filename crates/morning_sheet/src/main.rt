@@ -1,21 +1,12 @@
 // The sum of the intake's lines on standard input: the library's text, as it is.
 #![tactic(auto)]
 
-ghost use Rattle.std.specs.Prelude.{◌≤◌, length};
-
 use sheet::{LONGEST_SHEET, MOST_INPUT};
 use std::io;
 use std::io::{Read, Write};
 use streams::read_full;
 
-// A function of its own, so that what is asked of `n` is shown where it is called.
-fn show<W: Write>(text: &[u8], n: usize, writer: &mut W) -> io::Result<()>
-    requires { n ≤ length text.now }
-{
-    writer.write_all(&text[..n])
-}
-
-// What doesn't fit into `input` is not read: the sheet is that of all of it.
+// The arrays live on the stack of `main`, once. What doesn't fit into `input` is not read: the sheet is that of all of it.
 fn run<R: Read, W: Write>(
     input: &mut [u8; MOST_INPUT],
     text: &mut [u8; LONGEST_SHEET],
@@ -24,7 +15,7 @@ fn run<R: Read, W: Write>(
 ) -> io::Result<()> {
     let n = read_full(reader, input)?;
     let k = sheet::write_front_sheet(input, n, text);
-    show(text, k, writer)
+    writer.write_all(&text[..k])
 }
 
 fn main(rt: HostRuntime) -> io::Result<()> {

@@ -1,6 +1,6 @@
 -- The sheet of an input by its front, whatever stands behind that.
-use Rattle.std.specs.Prelude.{◌≡◌, ℕ, ◌≤◌, ◌<◌, List, ◌++◌, length, take, drop}
-use Rattle.std.proofs.Common.{sym, ap, ◌∙◌, arith, length-append, length-take, take_all}
+use Rattle.std.specs.Prelude.{◌≡◌, ℕ, ◌<◌, List, ◌++◌, length, take, drop}
+use Rattle.std.proofs.Common.{sym, ap, ◌∙◌, arith, length-take, take_all}
 use Rattle.sheet_rules.specs.Doc.Sheet.{sheet}
 use Rattle.sheet_rules.specs.Demands.Buffer.{most_bytes, front_sheet}
 
@@ -23,9 +23,3 @@ of_every front n {lines} h read e f input g =
 -- there is such an input, the front itself
 pub of_front : (front : List ℕ) (n : ℕ) {before : List ℕ} {r : ℕ} {after : List ℕ} → OfEvery front n before r after → Whole (take n front) before r after
 of_front front n p = p (take n front) (take_all (length front) (take n front) (rw (length-take n front) (omega arith)))
-
--- so the text lies inside the buffer
-pub every_inside : (front : List ℕ) (n : ℕ) {before : List ℕ} {r : ℕ} {after : List ℕ} → OfEvery front n before r after → r ≤ length after
-every_inside front n p =
-    let w = of_front front n p in
-    omega (arith, w.size, simp length-append at (ap length w.buffer))

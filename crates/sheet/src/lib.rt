@@ -40,7 +40,8 @@ pub fn write_whole_sheet(lines: &[u8], out: &mut [u8; LONGEST_SHEET]) -> usize
 
 // The sheet of an input of which `front` has the first bytes: n of them, which are all, or as many as it holds. Whatever stands behind them has no say.
 pub fn write_front_sheet(front: &[u8; MOST_INPUT], n: usize, out: &mut [u8; LONGEST_SHEET]) -> usize
-    ensures { OfEvery front.now n out.old result out.new }
+    ensures every { OfEvery front.now n out.old result out.new }
+    ensures inside { result ≤ 2350 }
 {
     write_whole_sheet(&front[..n.min(front.len())], out)
 }

@@ -8,4 +8,7 @@ pub returns : goal.returns
 returns c =
     let a = c.args in
     let told = c.write_whole_sheet.ensures in
-    of_every a.front.now a.n (omega (arith, c.told-front)) (sym (rw (c.min.ensures, ← c.told-front) (take_min a.n a.front.now))) told.value.0 told.out_after
+    record {
+      every = of_every a.front.now a.n (omega (arith, c.told-front)) (sym (rw (c.min.ensures, ← c.told-front) (take_min a.n a.front.now))) told.value.0 told.out_after;
+      inside = told.value.1;
+    }
