@@ -1,6 +1,7 @@
 -- What the answers say: document 01's number, or the values, of each case.
 use Rattle.std.specs.Prelude.{ℕ, ◌+◌, Result}
 use Rattle.rules.specs.Doc.Outcomes.{Outcome}
+use Rattle.rules.specs.Doc.Bytes as doc
 use Rattle.rules.specs.Doc.Headers.{Box, box_of}
 use Rattle.rules.specs.Results.{outcome}
 use Rattle.boxes.specs.declared.refusal.Refusal.{Refusal}
@@ -9,7 +10,7 @@ use Rattle.boxes.specs.declared.header.Header.{Header}
 use Rattle.boxes.specs.declared.header.Unread.{Unread}
 use Rattle.boxes.specs.declared.header.Unread.TheVariants as u
 use Rattle.boxes.specs.declared.level.Child.{Child}
-use Rattle.boxes.specs.declared.level.FileBox.{FileBox}
+use Rattle.boxes.specs.declared.span.Span.{Span}
 
 -- the table "Numbers given back", and the numbers that request three adds to it
 abbrev pub number : Refusal → ℕ
@@ -57,8 +58,12 @@ announces cut at = outcome (unread cut) (λ h. box_of at h.kind h.from (h.from +
 abbrev pub child : ℕ → Result Child Refusal → Outcome Box
 child at = outcome number (λ c. box_of at c.kind c.from c.to)
 
-abbrev pub file_box : ℕ → Result FileBox Refusal → Outcome Box
-file_box at = outcome number (λ f. box_of at f.kind f.from (f.from + f.size))
+abbrev pub file_box : ℕ → Result Header Refusal → Outcome Box
+file_box at = outcome number (λ h. box_of at h.kind h.from (h.from + h.size))
+
+-- where bytes are
+abbrev pub span_of : Span → doc.Span
+span_of p = record { from = p.from; to = p.to }
 
 -- of a field
 abbrev pub field_of : Result ℕ Refusal → Outcome ℕ

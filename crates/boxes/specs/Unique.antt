@@ -15,7 +15,6 @@ use Rattle.boxes.specs.declared.header.Header.{Header}
 use Rattle.boxes.specs.declared.header.Unread.{Unread}
 use Rattle.boxes.specs.declared.header.Unread.TheVariants as u
 use Rattle.boxes.specs.declared.level.Child.{Child}
-use Rattle.boxes.specs.declared.level.FileBox.{FileBox}
 
 -- ---- Refusals
 
@@ -173,14 +172,14 @@ pub child_one : (s : List ℕ) (h : Result Header Unread) {x y : Result Child Re
     → ((at : ℕ) → child at y ≡ standing (whole 3 (length s)) (announces 3 at h)) → x ≡ y
 child_one s h e f = one (child 0) as_child (child_back 0) (e 0) (f 0)
 
-box_file : Box → FileBox
+box_file : Box → Header
 box_file b = record { kind = b.kind; from = b.body.from; size = size_of b.body }
 
-file_same : (at : ℕ) (f : FileBox) → box_file (box_of at f.kind f.from (f.from + f.size)) ≡ f
+file_same : (at : ℕ) (h : Header) → box_file (box_of at h.kind h.from (h.from + h.size)) ≡ h
 unfolding box_file
-file_same at f = rw (size_back f.from f.size)
+file_same at h = rw (size_back h.from h.size)
 
-pub file_one : (s : List ℕ) (at : ℕ) {x y : Result FileBox Refusal} → file_box at x ≡ file_box_at s at → file_box at y ≡ file_box_at s at → x ≡ y
+pub file_one : (s : List ℕ) (at : ℕ) {x y : Result Header Refusal} → file_box at x ≡ file_box_at s at → file_box at y ≡ file_box_at s at → x ≡ y
 file_one s at e f = refusal_result_one _ box_file (file_same at) e f
 
 -- ---- Fields, of each of the functions that give a number

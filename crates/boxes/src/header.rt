@@ -64,7 +64,7 @@ impl Header {
                 size
             }
             2..=7 => return Err(Unread::Invalid),
-            size => size as u64,
+            size => u64::from(size),
         };
         Ok(Header::of(kind, at, head, size))
     }

@@ -47,27 +47,20 @@ pub const IINF: u32 = 0x69696e66;
 // A body of this size or more is too large to skip.
 const LARGE: u64 = 0x8000_0000_0000_0000;
 
-// A box of a file: its body may run past the end.
-#[derive(Clone, Copy)]
-pub struct FileBox {
-    pub kind: u32,
-    pub from: usize,
-    pub size: u64,
-}
-
+// A box of a file, whose body may run past the end: so its header is all that is said of it.
 // `read_box_header` of the Rust, with the test of `skip_file_level_box`.
 #[tactic(auto, unfolding(rules::specs::Doc::Headers::file_box_at, rules::specs::Doc::Headers::box_at), using(rules::specs::Laws::Decision::file_opened, rules::specs::Laws::Decision::file_skipped, rules::specs::Laws::Decision::file_large))]
-pub fn file_box(s: &[u8], at: usize) -> Result<FileBox, Refusal>
+pub fn file_box(s: &[u8], at: usize) -> Result<Header, Refusal>
     ensures { file_box at result ≡ file_box_at s.now at }
 {
     match Header::read(s, at) {
         Err(Unread::Cut) => Err(Refusal::ImageEnds),
         Err(Unread::Invalid) => Err(Refusal::InvalidBoxSize),
-        Ok(Header { kind, from, size }) => match kind {
-            FTYP | META => Ok(FileBox { kind, from, size }),
+        Ok(header) => match header.kind {
+            FTYP | META => Ok(header),
             _ => {
-                if size < LARGE {
-                    Ok(FileBox { kind, from, size })
+                if header.size < LARGE {
+                    Ok(header)
                 } else {
                     Err(Refusal::LargeSeek)
                 }

@@ -6,16 +6,17 @@ use Rattle.rules.specs.Doc.Bytes as doc-bytes
 use Rattle.rules.specs.Doc.Children as doc
 use Rattle.rules.specs.Results.{outcome, perhaps}
 use Rattle.boxes.specs.Told.{number}
+use Rattle.boxes.specs.Told as boxes
 use Rattle.boxes.specs.declared.refusal.Refusal.{Refusal}
+use Rattle.boxes.specs.declared.span.Span.{Span}
 use Rattle.items.specs.Told.{id_of}
-use Rattle.isobmff.specs.declared.span.Span.{Span}
 use Rattle.isobmff.specs.declared.top.Next.{Next}
 use Rattle.isobmff.specs.declared.top.Next.TheVariants as n
 use Rattle.isobmff.specs.declared.meta.Met.{Met}
 use Rattle.isobmff.specs.declared.meta.Kept.{Kept}
 
 abbrev pub place_of : Span → doc-bytes.Span
-place_of p = record { from = p.from; to = p.to }
+place_of = boxes.span_of
 
 -- ---- The top level
 

@@ -19,7 +19,7 @@ use Rattle.rules.specs.OverBytes.{item_block, answer_of, refusal, store_in, kept
 use Rattle.rules.specs.Laws.Gather.{answer_refused}
 use Rattle.rules.specs.Laws.Lent.{answer_lent}
 use Rattle.boxes.specs.declared.refusal.Refusal.{Refusal}
-use Rattle.isobmff.specs.declared.span.Span.{Span}
+use Rattle.boxes.specs.declared.span.Span.{Span}
 use Rattle.isobmff.specs.declared.meta.Kept.{Kept}
 use Rattle.isobmff.specs.Told.{place_of, span_of, kept_of}
 use Rattle.isobmff.specs.Top.{opened_body}

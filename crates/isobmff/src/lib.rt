@@ -7,7 +7,6 @@ ghost use Rattle.rules.specs.OverBytes.{answer_of, meta_block};
 ghost use Rattle.output.specs.Told.{told};
 
 mod meta;
-mod span;
 mod top;
 
 use output::Extracted;

@@ -4,8 +4,7 @@ ghost use Rattle.rules.specs.Doc.Children.{kept};
 ghost use Rattle.isobmff.specs.Told.{state_of, met_of, kept_of};
 ghost use Rattle.isobmff.specs.Children.{children_over, afterwards};
 
-use crate::span::Span;
-use boxes::{Child, Header, IINF, Refusal};
+use boxes::{Child, Header, IINF, Refusal, Span};
 
 const ILOC: u32 = 0x696c6f63;
 

@@ -3,8 +3,7 @@ ghost use Rattle.std.specs.Prelude.{◌≡◌, ◌≤◌, length};
 ghost use Rattle.isobmff.specs.Told.{body_of, next_of, top_of};
 ghost use Rattle.isobmff.specs.Top.{whole_to, ftyp_over, meta_over, box_over, opened_body};
 
-use crate::span::Span;
-use boxes::{FTYP, META, Refusal};
+use boxes::{FTYP, META, Refusal, Span};
 
 // Where a body of the file ends, if the image holds all of it. Here and in the next two functions the body has to begin inside: a type of its own for
 // what that makes of an image and a box would be longer than the three lines.

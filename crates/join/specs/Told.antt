@@ -3,20 +3,20 @@ use Rattle.std.specs.Prelude.{ℕ, List, length, eqb, if◌then◌else◌, Resul
 use Rattle.std.proofs.Common.{Bor}
 use Rattle.std.proofs.Math.Option as math
 use Rattle.rules.specs.Doc.Outcomes.{Outcome}
-use Rattle.rules.specs.Doc.Bytes.{Span}
+use Rattle.rules.specs.Doc.Bytes as doc
 use Rattle.rules.specs.Doc.Iloc.{Extent}
 use Rattle.rules.specs.Doc.Join.{lies}
 use Rattle.rules.specs.OverBytes.{part_of, gathered, block_from}
 use Rattle.rules.specs.Results.{outcome, perhaps}
-use Rattle.boxes.specs.Told.{number}
+use Rattle.boxes.specs.Told.{number, span_of}
 use Rattle.boxes.specs.declared.refusal.Refusal.{Refusal}
+use Rattle.boxes.specs.declared.span.Span.{Span}
 use Rattle.locations.specs.Told.{location_in, extents_of}
 use Rattle.locations.specs.declared.location.Location.{Location}
-use Rattle.join.specs.declared.place.Part.{Part}
 
 -- of where an extent lies
-abbrev pub place_of : Result Part Refusal → Outcome Span
-place_of = outcome number (λ p. record { from = p.from; to = p.to })
+abbrev pub place_of : Result Span Refusal → Outcome doc.Span
+place_of = outcome number span_of
 
 -- of the total
 abbrev pub total_of : Result ℕ Refusal → Outcome ℕ
@@ -39,7 +39,7 @@ part_by method image idat base x =
     part_of s (lies method (length s) base x)
 
 -- how its extents lie in n bytes
-abbrev pub lies_by : Location → ℕ → Extent → Outcome Span
+abbrev pub lies_by : Location → ℕ → Extent → Outcome doc.Span
 lies_by l n = lies (location_in l).entry.method n (location_in l).entry.base
 
 -- its joined bytes

@@ -6,26 +6,19 @@ ghost use Rattle.rules.specs.Laws.Places.{EndsIn};
 ghost use Rattle.locations.specs.Told.{extent_in};
 ghost use Rattle.join.specs.Told.{place_of, part_by};
 
-use boxes::Refusal;
+use boxes::{Refusal, Span};
 use locations::Extent;
 
-// From `from` up to, not including, `to`. In the image a part may begin past the end; it is empty, with `to` below `from`.
-#[derive(Clone, Copy)]
-pub(crate) struct Part {
-    pub from: usize,
-    pub to: usize,
-}
-
-// Method 0, in an image of `image_len` bytes.
+// Method 0, in an image of `image_len` bytes. In the image a part may begin past the end; it is empty, with `to` below `from`.
 #[tactic(auto, using(rules::specs::Laws::Places::image_open, rules::specs::Laws::Places::image_2, rules::specs::Laws::Places::image_part))]
-fn in_image(image_len: usize, base: u64, x: Extent) -> Result<Part, Refusal>
+fn in_image(image_len: usize, base: u64, x: Extent) -> Result<Span, Refusal>
     requires { base + x.offset < 2 ^ 64 }
     ensures { place_of result ≡ in_image image_len base (extent_in x) }
 {
     let from = (base + x.offset) as usize;
     let size = x.length as usize;
     if size == 0 {
-        return Ok(Part {
+        return Ok(Span {
             from,
             to: image_len,
         });
@@ -33,7 +26,7 @@ fn in_image(image_len: usize, base: u64, x: Extent) -> Result<Part, Refusal>
     if image_len.saturating_sub(from) < size {
         return Err(Refusal::ImageEnds);
     }
-    Ok(Part {
+    Ok(Span {
         from,
         to: from + size,
     })
@@ -41,7 +34,7 @@ fn in_image(image_len: usize, base: u64, x: Extent) -> Result<Part, Refusal>
 
 // Method 1, in an `idat` body of `idat_len` bytes.
 #[tactic(auto, using(rules::specs::Laws::Places::idat_19, rules::specs::Laws::Places::idat_past, rules::specs::Laws::Places::idat_open, rules::specs::Laws::Places::idat_20, rules::specs::Laws::Places::idat_part))]
-fn in_idat(idat_len: usize, base: u64, x: Extent) -> Result<Part, Refusal>
+fn in_idat(idat_len: usize, base: u64, x: Extent) -> Result<Span, Refusal>
     requires { base + x.offset < 2 ^ 64 }
     ensures { place_of result ≡ in_idat idat_len base (extent_in x) }
 {
@@ -53,17 +46,17 @@ fn in_idat(idat_len: usize, base: u64, x: Extent) -> Result<Part, Refusal>
         return Err(Refusal::OutOfIdat);
     }
     if x.length == 0 {
-        return Ok(Part { from, to: idat_len });
+        return Ok(Span { from, to: idat_len });
     }
     if idat_len < to {
         return Err(Refusal::OutOfIdat);
     }
-    Ok(Part { from, to })
+    Ok(Span { from, to })
 }
 
 // Where an extent lies in the `len` bytes that the method, 0 or 1, names.
 #[tactic(auto, using(rules::specs::Laws::Places::place_18, rules::specs::Laws::Places::place_image, rules::specs::Laws::Places::place_idat))]
-pub(crate) fn extent_place(method: u64, len: usize, base: u64, x: Extent) -> Result<Part, Refusal>
+pub(crate) fn extent_place(method: u64, len: usize, base: u64, x: Extent) -> Result<Span, Refusal>
     ensures { place_of result ≡ lies method len base (extent_in x) }
 {
     if u64::MAX - base < x.offset {
@@ -77,12 +70,12 @@ pub(crate) fn extent_place(method: u64, len: usize, base: u64, x: Extent) -> Res
 
 // The bytes of a place in `s`. None of a refused one: `total_size` has refused it before, and the arm only spares a `requires`.
 #[tactic(auto, unfolding(rules::specs::OverBytes::part_of))]
-fn part_at(s: &[u8], place: Result<Part, Refusal>) -> &[u8]
+fn part_at(s: &[u8], place: Result<Span, Refusal>) -> &[u8]
     requires { EndsIn (length s.now) (place_of place) }
     ensures { result.now ≡ part_of s.now (place_of place) }
 {
     match place {
-        Ok(Part { from, to }) if from <= to => &s[from..to],
+        Ok(Span { from, to }) if from <= to => &s[from..to],
         _ => &s[..0],
     }
 }

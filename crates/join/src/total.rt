@@ -4,19 +4,19 @@ ghost use Rattle.rules.specs.OverBytes.{added, total_from};
 ghost use Rattle.locations.specs.Told.{extents_of};
 ghost use Rattle.join.specs.Told.{place_of, total_of, lies_by};
 
-use crate::place::{Part, extent_place};
-use boxes::Refusal;
+use crate::place::extent_place;
+use boxes::{Refusal, Span};
 use locations::Location;
 
 const MAX_EXIF_SIZE: usize = 65535;
 
 // The total with one more part.
 #[tactic(auto, unfolding(rules::specs::OverBytes::added), using(rules::specs::Laws::Totals::added_over, rules::specs::Laws::Totals::added_more))]
-fn with_part(total: usize, place: Result<Part, Refusal>) -> Result<usize, Refusal>
+fn with_part(total: usize, place: Result<Span, Refusal>) -> Result<usize, Refusal>
     requires { total ≤ 65535 }
     ensures { total_of result ≡ added total (place_of place) }
 {
-    let Part { from, to } = place?;
+    let Span { from, to } = place?;
     let size = to.saturating_sub(from);
     if MAX_EXIF_SIZE - total < size {
         return Err(Refusal::TooLarge);

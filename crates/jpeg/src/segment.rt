@@ -6,7 +6,7 @@ ghost use Rattle.jpeg.specs.Bodies.{body_end};
 ghost use Rattle.jpeg.specs.Leads.{lead_at};
 
 use crate::marker::{APP1, PREFIX, ends_search, lacks_length, marker_at};
-use boxes::Refusal;
+use boxes::{Refusal, Span};
 
 // How long the name is, with its zero bytes: the block stands behind it.
 const NAME_SIZE: usize = 6;
@@ -33,7 +33,7 @@ fn body_end(image: &[u8], at: usize) -> Result<usize, Refusal>
     if image.len() - at < HEAD {
         return Err(Refusal::ImageEnds);
     }
-    let length = endian::loadu16(image, at + 1) as usize;
+    let length = usize::from(endian::loadu16(image, at + 1));
     if length < 2 {
         return Err(Refusal::SegmentTooSmall);
     }
@@ -43,18 +43,11 @@ fn body_end(image: &[u8], at: usize) -> Result<usize, Refusal>
     Ok(at + 1 + length)
 }
 
-// Where the block is.
-#[derive(Clone, Copy)]
-pub(crate) struct Block {
-    pub(crate) from: usize,
-    pub(crate) to: usize,
-}
-
-// What a segment leads to: the next one's position, or the block.
+// What a segment leads to: the next one's position, or where the block is.
 #[derive(Clone, Copy)]
 pub(crate) enum Next {
     On(usize),
-    Found(Block),
+    Found(Span),
 }
 
 // The segment at `start`, by its FF bytes, its marker and, for most, its length. A search that ends with no block is refused too.
@@ -81,7 +74,7 @@ pub(crate) fn read_segment(image: &[u8], start: usize) -> Result<Next, Refusal>
     if !is_exif(marker, &image[from..to]) {
         return Ok(Next::On(to));
     }
-    Ok(Next::Found(Block {
+    Ok(Next::Found(Span {
         from: from + NAME_SIZE,
         to,
     }))

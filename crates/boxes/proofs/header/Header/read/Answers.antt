@@ -9,5 +9,5 @@ returns c =
     (elim c.match-loadu32.branch [
       | in-0 w ↦ rw (w.head-is, w.size-is) (search by.to_end)
       | in-1+else-left-lt-LONG+else-size w ↦ rw (w.head-is, w.size-is) (search by.large_exact)
-      | in_default w ↦ rw (w.head-is, w.size-is) (search by.exact)
+      | in_default w ↦ rw (w.head-is, w.size-is, w.from-size.ensures) (search by.exact)
     ])
