@@ -43,7 +43,7 @@ fn put_refusal(number: u8, out: &mut [u8]) -> usize
     ensures { Wrote (line_text (refused number)) 0 out.old result out.new }
 {
     let at = text::put(b"answer=", out, 0);
-    let at = text::put_decimal(number as usize, out, at);
+    let at = text::put_decimal(usize::from(number), out, at);
     text::put(b"\n", out, at)
 }
 

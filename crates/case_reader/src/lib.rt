@@ -26,9 +26,9 @@ fn stop<W: Write>(case: u64, why: &str, out: &mut W) -> io::Result<Option<Case>>
     Ok(None)
 }
 
-// Reads the case of that number, its image to the front of `image`; there is none where the run is over. Its output may have `most` bytes at most. A run
-// that is over too soon, because the input ends inside the case or a length is more than is taken, says so by a line on `out`. Where a read or that line fails, the error is answered, and
-// the case is not known.
+// Reads the case of that number, its image to the front of `image`; there is none where the run is over. Its output may have `most` bytes at most.
+// A run that is over too soon, because the input ends inside the case or a length is more than is taken, says so by a line on `out`. Where a read
+// or that line fails, the error is answered, and the case is not known.
 pub fn next_case<R: Read, W: Write>(
     case: u64,
     image: &mut [u8],

@@ -44,9 +44,5 @@ pub fn parse(value: &[u8]) -> Option<Time>
         return None;
     }
     let found = time_in(value);
-    if calendar::is_date(found) && calendar::is_clock(found) {
-        Some(found)
-    } else {
-        None
-    }
+    (calendar::is_date(found) && calendar::is_clock(found)).then_some(found)
 }

@@ -12,7 +12,7 @@ pub struct Fraction {
     pub den: u64,
 }
 
-// The number that four bytes hold which read as `n`: two's complement.
+// The number that four bytes hold which read as `n`: two's complement. The library's cast, by a name that the definition and the edits have.
 #[tactic(auto, unfolding(capture_rules::specs::Doc::Fraction::signed32))]
 pub fn signed32(n: u32) -> i32
     ensures { result ≡ doc.signed32 n }

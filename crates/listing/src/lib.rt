@@ -89,11 +89,16 @@ pub fn list_boxes(image: &[u8], out: &mut [u8]) -> usize
     ensures out_after { out.new ≡ printed (listing image.now) out.old }
 {
     if image.len() > LONGEST {
-        return put_last(LONGEST, Refusal::ListingTooLong.number() as usize, out, 0);
+        return put_last(
+            LONGEST,
+            usize::from(Refusal::ListingTooLong.number()),
+            out,
+            0,
+        );
     }
     match list_run(image, 0, DEEPEST, out, 0) {
         Ok(written) => put_last(image.len(), 0, out, written),
-        Err(Fault { written, at, why }) => put_last(at, why.number() as usize, out, written),
+        Err(Fault { written, at, why }) => put_last(at, usize::from(why.number()), out, written),
     }
 }
 

@@ -8,8 +8,8 @@ use crate::extent;
 use crate::extent::Extent;
 use crate::sizes::Sizes;
 
-// The entry that was chosen, the sizes by which its extents are read again, and the body that they are in. Whoever has one need show nothing to
-// read them: that it was chosen is a fact of the type.
+// The entry that was chosen, the sizes by which its extents are read again, and the body that they are in. That it was chosen is a fact of the
+// type: so whoever has one need show only that there is an extent `k`, to read that.
 #[derive(Clone, Copy)]
 pub struct Location<'a> {
     pub body: &'a [u8],

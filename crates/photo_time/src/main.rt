@@ -24,7 +24,10 @@ fn run<R: Read, W: Write, E: Write>(
 ) -> io::Result<()> {
     let n = read_full(reader, image)?;
     if LONGEST < n {
-        return errors.write_all(b"photo_time: the image is longer than 6291456 bytes\n");
+        return writeln!(
+            errors,
+            "photo_time: the image is longer than {LONGEST} bytes"
+        );
     }
     // What standard output doesn't take is lost.
     let _ = capture_line::print_line(&image[..n], block, writer);

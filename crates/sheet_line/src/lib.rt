@@ -1,4 +1,4 @@
-// A line that the intake wrote, read byte by byte: exactly `answer=A length=L` and a newline, or another shape.
+// A line that the intake wrote, read by its words and its digits: exactly `answer=A length=L` and a newline, or another shape.
 #![tactic(auto)]
 
 ghost use Rattle.std.specs.Prelude.{◌≡◌, [], ◌≤◌};

@@ -8,7 +8,7 @@ ghost use Rattle.splitter.specs.Behind.{behind, behind_sized, behind_box};
 use crate::behind::header_read;
 use boxes::{Child, Header, Refusal};
 
-// The rest of a box's bytes. Whatever stands at its front is read by a function at a position, and what was read is gone.
+// The rest of a box's bytes. What was read is gone. A box or a number at the front is read by a function at a position.
 #[derive(Clone, Copy)]
 pub struct BoxSplitter<'a> {
     pub inner: &'a [u8],

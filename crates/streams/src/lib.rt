@@ -26,8 +26,8 @@ pub fn read_full<R: Read>(reader: &mut R, buf: &mut [u8]) -> io::Result<usize>
     Ok(done)
 }
 
-// Writes all of `bytes`; where a write fails, some of it may have been written. Each `print_line` makes a line of its own in a buffer of its own length,
-// and hands it here: the two lines that they share are shorter than a call with a closure.
+// Writes all of `bytes`; where a write fails, some of it may have been written. Each `print_line` makes a line of its own in a buffer of its own
+// length, and hands it here: the two lines that they share are shorter than a call with a closure.
 pub fn write_all<W: Write>(bytes: &[u8], writer: &mut W) -> io::Result<()>
     ensures { OnOk result (Appends (W.contents writer.old) (W.contents writer.new) bytes.now) }
 {

@@ -1,4 +1,5 @@
-// An entry of a directory: its type, how many values it has, and where they stand. What it holds doesn't go by its tag: in the contracts 0 is in its place.
+// An entry of a directory: its type, how many values it has, and where they stand. What it holds doesn't go by its tag: in the contracts 0 is in
+// its place.
 ghost use Rattle.std.specs.Prelude.{◌≡◌, length, IfOk};
 ghost use Rattle.capture_rules.specs.Doc.Directory.{holds, value_of};
 ghost use Rattle.tiff.specs.Told.{entry_of, bytes_of};

@@ -24,7 +24,7 @@ pub fn read_directory<'a>(order: Endian, block: &'a [u8], at: usize) -> Result<D
         return Err(Fault::Outside);
     }
     let from = at + 2;
-    let count = order.loadu16(block, at) as usize;
+    let count = usize::from(order.loadu16(block, at));
     if !inside(block, from, Directory::ENTRY * count) {
         return Err(Fault::Outside);
     }

@@ -5,4 +5,4 @@ use Rattle.capture_line.proofs.put_refusal.Goals as goal
 
 pub returns : goal.returns
 unfolding line_text
-returns c = wrote_then (wrote_then c.put-at.ensures c.put_decimal-at.ensures) c.put.ensures
+returns c = wrote_then (wrote_then c.put-at.ensures (rw c.from.ensures at c.put_decimal-at.ensures)) c.put.ensures
