@@ -8,24 +8,24 @@ use borrow.Author.Tests.{ne_eqb}
 use Rattle.rules.specs.Doc.Outcomes.{Outcome, refused}
 use Rattle.rules.specs.Doc.Block.{bytes_at}
 use Rattle.rules.specs.Doc.Answers.{Answer}
-use Rattle.boxes.specs.Told.{number}
+use Rattle.boxes.specs.Told as boxes
 use Rattle.boxes.specs.Unique.{not_done}
-use Rattle.boxes.specs.declared.refusal.Refusal.{Refusal}
 use Rattle.output.specs.Told.{Extracted, told}
+use Rattle.output.specs.declared.NoBlock.{NoBlock}
 use Rattle.output.specs.declared.NoBlock.TheVariants.{NoRoom, Refused}
 use Rattle.rules.specs.Demands.One.{length_said}
 use Rattle.jpeg_rules.specs.Doc.Either.{either_answer}
 use Rattle.reader.specs.Demands.{success_only_block}
 use Rattle.capture_rules.specs.Doc.Capture.{Capture, capture, of_answer, photo}
+use Rattle.capture.specs.Told.{number, not_handed}
+use Rattle.capture.specs.declared.NotRead.{NotRead}
 
 module _ (img out after : List ℕ) (r : Extracted) (meets : told r after ≡ either_answer img out) where
-  pub photo_refused : {e : Refusal} → r ≡ Err (Refused e) → refused (number e) ≡ photo img out
+  -- whatever the reason, its number is the photo's
+  pub photo_refused : {e : NoBlock} {x : NotRead} → r ≡ Err e → x ≡ not_handed e → refused (number x) ≡ photo img out
   unfolding photo of_answer
-  photo_refused {e} f = rw (← meets, f, ne_eqb (number e) 0 (not_done e))
-
-  pub photo_no_room : {n : ℕ} → r ≡ Err (NoRoom n) → refused 28 ≡ photo img out
-  unfolding photo of_answer
-  photo_no_room f = rw (← meets, f)
+  photo_refused {e = NoRoom n} f g = rw (← meets, f, g) refl
+  photo_refused {e = Refused e} f g = rw (← meets, f, g, ne_eqb (boxes.number e) 0 (not_done e)) refl
 
   module _ {n : ℕ} (f : r ≡ Ok n) where
     -- the block lies in the output

@@ -7,6 +7,9 @@ use Rattle.capture_rules.specs.Doc.Time as doc-time
 use Rattle.capture_rules.specs.Doc.Fraction as doc-fraction
 use Rattle.capture_rules.specs.Doc.Capture as doc
 use Rattle.boxes.specs.Told as boxes
+use Rattle.boxes.specs.declared.refusal.Refusal.TheVariants as refusal
+use Rattle.output.specs.declared.NoBlock as output
+use Rattle.output.specs.declared.NoBlock.TheVariants.{NoRoom, Refused}
 use Rattle.tiff.specs.Told as tiff
 use Rattle.tiff.specs.declared.fault.Fault.{Fault}
 use Rattle.dates.specs.Told.{time_of}
@@ -43,6 +46,11 @@ captured_of = outcome tiff.number capture_of
 abbrev pub number : NotRead → ℕ
 number (NoBlock e) = boxes.number e
 number (Unread e) = tiff.number e
+
+-- why extraction handed out no block
+abbrev pub not_handed : output.NoBlock → NotRead
+not_handed (NoRoom n) = NoBlock refusal.NoRoom
+not_handed (Refused e) = NoBlock e
 
 abbrev pub photo_of : Result Capture NotRead → Outcome doc.Capture
 photo_of = outcome number capture_of

@@ -9,7 +9,7 @@ ghost use Rattle.std.specs.Prelude.{◌≡◌};
 ghost use Rattle.jpeg_rules.specs.Doc.Either.{either_answer};
 ghost use Rattle.capture_rules.specs.Doc.Capture.{in_order, capture_in, capture_from, capture, photo};
 ghost use Rattle.tiff.specs.Told.{by_directory};
-ghost use Rattle.capture.specs.Told.{dated_of, biased_of, captured_of, number, photo_of};
+ghost use Rattle.capture.specs.Told.{dated_of, biased_of, captured_of, not_handed, number, photo_of};
 ghost use Rattle.capture.specs.declared.NotRead.TheVariants.{Unread};
 
 use bias::bias_in;
@@ -46,11 +46,23 @@ impl NotRead {
     }
 }
 
+// What no room was left for is refused as 28.
+impl From<NoBlock> for NotRead {
+    ghost from_gives = { λ e r. r ≡ not_handed e };
+
+    fn from(e: NoBlock) -> NotRead {
+        match e {
+            NoBlock::NoRoom(_) => NotRead::NoBlock(Refusal::NoRoom),
+            NoBlock::Refused(refusal) => NotRead::NoBlock(refusal),
+        }
+    }
+}
+
 impl From<Fault> for NotRead {
     ghost from_gives = { λ e r. r ≡ Unread e };
 
-    fn from(e: Fault) -> NotRead {
-        NotRead::Unread(e)
+    fn from(fault: Fault) -> NotRead {
+        NotRead::Unread(fault)
     }
 }
 
@@ -95,15 +107,11 @@ pub fn from_block(block: &[u8]) -> Result<Capture, Fault>
 }
 
 // Extracts the block into `out` first, and then reads it there. After any answer `out` is what extraction left.
-#[tactic(auto, using(crate::specs::Photo::photo_refused, crate::specs::Photo::photo_no_room, crate::specs::Photo::block_inside, crate::specs::Photo::photo_read, rules::specs::Laws::Numbers::first_part))]
+#[tactic(auto, using(crate::specs::Photo::photo_refused, crate::specs::Photo::block_inside, crate::specs::Photo::photo_read, rules::specs::Laws::Numbers::first_part))]
 pub fn from_image(image: &[u8], out: &mut [u8]) -> Result<Capture, NotRead>
     ensures result_value { photo_of result ≡ photo image.now out.old }
     ensures out_after { out.new ≡ (either_answer image.now out.old).output }
 {
-    let n = match reader::get_exif_attr(image, out) {
-        Ok(n) => n,
-        Err(NoBlock::NoRoom(_)) => return Err(NotRead::NoBlock(Refusal::NoRoom)),
-        Err(NoBlock::Refused(e)) => return Err(NotRead::NoBlock(e)),
-    };
+    let n = reader::get_exif_attr(image, out)?;
     Ok(from_block(&out[..n])?)
 }
