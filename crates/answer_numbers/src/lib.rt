@@ -24,5 +24,5 @@ pub fn put_answer(answer: Extracted, line: &mut [u8]) -> usize
     ensures { (out : List ℕ) → Copied (numbers_text (told answer out).number (told answer out).length) 0 line.old result line.new }
 {
     let (number, length) = output::numbers(answer);
-    put_numbers(number as usize, length, line)
+    put_numbers(usize::from(number), length, line)
 }
