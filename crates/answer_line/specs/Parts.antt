@@ -1,8 +1,8 @@
 -- What the proofs cite: the digits of bytes, and what was copied from the front on.
-use Rattle.std.specs.Prelude.{◌≡◌, refl, ℕ, ◌+◌, ◌-◌, ◌/◌, ◌%◌, ◌≤◌, ◌<◌, List, [], ◌∷◌, ◌++◌, length, take, drop, get_or}
+use Rattle.std.specs.Prelude.{◌≡◌, refl, ℕ, suc, ◌+◌, ◌-◌, ◌/◌, ◌%◌, ◌≤◌, ◌<◌, List, [], ◌∷◌, ◌++◌, length, take, drop, get_or, set}
 use Rattle.std.proofs.Common.{sym, ap, ◌∙◌, arith, add-one, append_assoc, append-nil, length-take, take-suc}
 use native.Mathlib.Numerals.{unary_clauses}
-use Rattle.std.proofs.Math.Seq.{length-sets, take-append_seam}
+use Rattle.std.proofs.Math.Seq.{length-sets, take-append_seam, take-nil}
 use Rattle.rules.specs.Doc.Text.{ascii, digit, hex}
 use Rattle.rules.specs.Doc.Listing.{printed}
 use Rattle.rules.specs.Laws.Over.{over_front}
@@ -10,6 +10,12 @@ use Rattle.output.specs.Copied.{Copied}
 use Rattle.answer_line.specs.Line.{hexes, out_text}
 
 -- ---- Bytes
+
+-- one, where there is room for it
+pub copied_byte : (x at : ℕ) (out : List ℕ) → at < length out → Copied (x ∷ []) at out (at + 1) (set out at x)
+copied_byte x at out h =
+    let room : length out - at ≡ suc (length out - suc at) = omega arith in
+    record { place = rw (room, take-nil (length out - suc at)) refl; buffer = refl }
 
 -- both digits of one
 pub hex_two : (b : ℕ) → hex 2 b ≡ digit (b / 16 % 16) ∷ digit (b % 16) ∷ []

@@ -2,9 +2,9 @@
 // is room for, and answers the place behind the last byte.
 #![tactic(auto)]
 
-ghost use Rattle.std.specs.Prelude.{◌≡◌, OnOk, length, take};
+ghost use Rattle.std.specs.Prelude.{◌≡◌, ◌<◌, [], ◌∷◌, OnOk, length, take};
 ghost use Rattle.std.specs.Io.KnownBytes.{Appends};
-ghost use Rattle.rules.specs.Doc.Text.{hex};
+ghost use Rattle.rules.specs.Doc.Text.{digit, hex};
 ghost use Rattle.rules.specs.Doc.Listing.{printed};
 ghost use Rattle.output.specs.Told.{told};
 ghost use Rattle.output.specs.Copied.{Copied};
@@ -16,11 +16,24 @@ use std::io::Write;
 use streams::write_all;
 use text::digit;
 
+// One digit. Most of a line are digits of the output: a copy of two by `put` would take each byte of it twice as long.
+#[tactic(auto, using(output::specs::Copied::copied_full, crate::specs::Parts::copied_byte))]
+fn put_digit(d: usize, line: &mut [u8], at: usize) -> usize
+    requires { d < 16 }
+    ensures { Copied (digit d ∷ []) at line.old result line.new }
+{
+    if line.len() <= at {
+        return at;
+    }
+    line[at] = digit(d);
+    at + 1
+}
+
 fn put_pair(b: u8, line: &mut [u8], at: usize) -> usize
     ensures { Copied (hex 2 b) at line.old result line.new }
 {
-    let pair = [digit(usize::from(b / 16)), digit(usize::from(b % 16))];
-    put(&pair, 0, line, at)
+    let at = put_digit(usize::from(b / 16), line, at);
+    put_digit(usize::from(b % 16), line, at)
 }
 
 // Two digits a byte, and `-` where there is none.

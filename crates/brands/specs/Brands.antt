@@ -68,28 +68,41 @@ unfolding any
 known_any [] = refl
 known_any (x ∷ xs) = ap (λ b. known x || b) (known_any xs)
 
--- in a loop over brands: `yes` is the answer of all brands, and those in `s` decide it
-module _ (s : List ℕ) {yes : Bool} (inv : known_in s ≡ yes) where
-  pub known_none : length s < 4 → false ≡ yes
-  unfolding known_in any
-  known_none h = rw (brands_none s h) at inv
+-- whether one of the brands from a position on is known; 1 to 3 bytes at the end are ignored
+unfoldable pub known_from : List ℕ → ℕ → Bool
+known_from body at = any known (brands_from body at ((length body - at) / 4))
 
-  module _ (x rest : List ℕ) (cut : s ≡ x ++ rest) (four : length x ≡ 4) {brand : ℕ} (e : brand ≡ number_at x 0 4) where
-    known_next : (known brand || known_in rest) ≡ yes
-    unfolding known_in any
-    known_next = rw (cut, brands_next x rest four, ← e) at inv
+-- in a loop over brands: `yes` is the answer of all brands, and those from `at` on decide it
+module _ (body : List ℕ) (at : ℕ) {yes : Bool} (inv : known_from body at ≡ yes) where
+  pub brand_none : length body - at < 4 → false ≡ yes
+  unfolding known_from any brands_from
+  brand_none h =
+      let k : (length body - at) / 4 ≡ 0 = omega arith in
+      rw k at inv
 
-    pub known_first : true ≡ known brand → true ≡ yes
-    known_first f = rw (← f) at known_next
+  -- the brand at the position, and whether it is known
+  module _ (h : 4 ≤ length body - at) {brand : ℕ} {q : Bool} (e : brand ≡ number_at body at 4) (f : q ≡ known brand) where
+    brand_first : (q || known_from body (at + 4)) ≡ yes
+    unfolding known_from any brands_from
+    brand_first =
+        let k : (length body - at) / 4 ≡ suc ((length body - (at + 4)) / 4) = omega arith in
+        rw (k, ← e, ← f) at inv
 
-    pub known_other : false ≡ known brand → known_in rest ≡ yes
-    known_other f = rw (← f) at known_next
+    pub brand_known : q ≡ true → true ≡ yes
+    brand_known g = rw g at brand_first
+
+    pub brand_other : q ≡ false → known_from body (at + 4) ≡ yes
+    brand_other g = rw g at brand_first
 
 -- the compatible brands of an `ftyp`
 module _ (body : List ℕ) where
   pub ftyp_small : length body < 8 → refused 3 ≡ brand_test body
   unfolding brand_test
   ftyp_small h = rw (lt-leb 8 (length body) h)
+
+  pub ftyp_brands : {yes : Bool} → 8 ≤ length body → yes ≡ known_from body 8 → require yes 7 ≡ brand_test body
+  unfolding brand_test known_from
+  ftyp_brands h e = rw (le-leb 8 (length body) h, e)
 
   module _ (h : 8 ≤ length body) {compatible : List ℕ} (c : compatible ≡ slice_range body 8 (length body)) where
     behind : compatible ≡ drop 8 body
@@ -169,5 +182,5 @@ module _ (s : List ℕ) (at : ℕ) (inv : heif_from s at ≡ is_heif s) where
         unfolding is_fine
         heif_small h = ap is_fine (ftyp_small body h) ∙ heif_ftyp
 
-        pub heif_brands : 8 ≤ length body → {compatible : List ℕ} → compatible ≡ slice_range body 8 (length body) → known_in compatible ≡ is_heif s
-        heif_brands h c = fine_require _ 7 ∙ ap is_fine (ftyp_known body h c) ∙ heif_ftyp
+        pub heif_brands : 8 ≤ length body → known_from body 8 ≡ is_heif s
+        heif_brands h = fine_require (known_from body 8) 7 ∙ ap is_fine (ftyp_brands body h refl) ∙ heif_ftyp

@@ -61,13 +61,17 @@ pub fn is_heif(buf: &[u8]) -> bool
             break 'boxes false;
         };
         if child.kind == FTYP {
-            let Some(brands) = buf[child.from..child.to].get(Brand::COMPATIBLE..) else {
+            let body = &buf[child.from..child.to];
+            if body.len() < Brand::COMPATIBLE {
                 break 'boxes false;
-            };
-            for brand in brands.chunks_exact(Brand::SIZE) {
-                if Brand(endian::loadu32(brand, 0)).is_known() {
+            }
+            // By places, counted by hand: with a `for`, over `chunks_exact` or by numbers, a brand takes a quarter more here.
+            let mut i = Brand::COMPATIBLE;
+            while Brand::SIZE <= body.len() - i {
+                if Brand(endian::loadu32(body, i)).is_known() {
                     break 'boxes true;
                 }
+                i += Brand::SIZE;
             }
             break 'boxes false;
         }

@@ -1,7 +1,7 @@
 // Signed fractions in lowest terms.
 #![tactic(auto)]
 
-ghost use Rattle.std.specs.Prelude.{◌≡◌, pos};
+ghost use Rattle.std.specs.Prelude.{◌≡◌, ◌≤◌, ◌^◌, pos};
 ghost use Rattle.capture_rules.specs.Doc.Fraction as doc;
 ghost use Rattle.fraction.specs.Told.{fraction_of};
 
@@ -20,16 +20,17 @@ pub fn signed32(n: u32) -> i32
     n.cast_signed()
 }
 
-fn with_sign(negative: bool, size: u32) -> i64
+fn with_sign(negative: bool, size: u64) -> i64
+    requires { size ≤ 2 ^ 31 }
     ensures { result ≡ doc.with_sign negative size }
 {
-    let wide = i64::from(size);
+    let wide = size as i64;
     if negative { -wide } else { wide }
 }
 
-// By Euclid: x and y become y and what is left of x, and their greatest common divisor stays.
+// By Euclid: x and y become y and what is left of x, and their greatest common divisor stays. In 64 bits, as document 01 asks.
 #[tactic(auto, using(capture_rules::specs::Laws::Euclid::gcd_turn, capture_rules::specs::Laws::Euclid::gcd_none))]
-fn gcd(a: u32, b: u32) -> u32
+fn gcd(a: u64, b: u64) -> u64
     ensures { result ≡ doc.gcd a b }
 {
     let mut x = a;
@@ -45,12 +46,12 @@ pub fn lowest(num: i32, den: i32) -> Fraction
     requires { den ≡ pos 0 → ⊥ }
     ensures { fraction_of result ≡ doc.lowest num den }
 {
-    let n = num.unsigned_abs();
-    let d = den.unsigned_abs();
+    let n = u64::from(num.unsigned_abs());
+    let d = u64::from(den.unsigned_abs());
     let g = gcd(n, d);
     let negative = (num < 0) != (den < 0);
     Fraction {
         num: with_sign(negative, n / g),
-        den: u64::from(d / g),
+        den: d / g,
     }
 }

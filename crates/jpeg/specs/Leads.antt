@@ -1,5 +1,5 @@
 -- What one segment leads to.
-use Rattle.std.specs.Prelude.{◌≡◌, Bool, true, false, ◌||◌, List, ℕ, ◌+◌, ◌-◌, ◌<◌, length, leb, eqb, if◌then◌else◌}
+use Rattle.std.specs.Prelude.{◌≡◌, Bool, true, false, ◌||◌, List, ℕ, ◌+◌, ◌-◌, ◌≤◌, ◌<◌, length, leb, eqb, if◌then◌else◌}
 use Rattle.std.proofs.Math.Path.{refl}
 use Rattle.std.proofs.Common.{◌∙◌}
 use Rattle.std.proofs.Math.Bool.{and-false}
@@ -13,7 +13,7 @@ use Rattle.rules.specs.Laws.Rows.{bind_assoc}
 use Rattle.jpeg_rules.specs.Doc.Segments.{prefix, marker_at, ends_search, lacks_length, Segment, body_at, body, length_at, length_read, segment_at, APP1, is_exif, length_test, said}
 use Rattle.jpeg_rules.specs.Doc.Block.{behind_name, block_in}
 use Rattle.jpeg.specs.Told.{Lead, on, block}
-use Rattle.jpeg.specs.Markers.{marker_in, marker_given, marker_missing, marker_later}
+use Rattle.jpeg.specs.Markers.{marker_later}
 use Rattle.jpeg.specs.Exif.{exif_body, exif_body_is}
 use Rattle.jpeg.specs.Bodies.{sized_end, body_end}
 
@@ -66,20 +66,15 @@ module _ (s : List ℕ) (start : ℕ) where
   lead_unmarked ne = rw (ne_eqb (byte_at s start) prefix ne)
 
   -- the first FF is there, so the marker byte stands where it does from the next byte on
-  module _ (begins : start < length s) (fills : byte_at s start ≡ prefix) where
-    pub lead_cut : none ≡ marker_in s (start + 1) → refused 2 ≡ lead_at s start
+  module _ (begins : start < length s) (fills : byte_at s start ≡ prefix) {at : ℕ} (found : at ≡ marker_at s (start + 1)) where
+    here : at ≡ marker_at s start
+    here = found ∙ marker_later s start refl begins fills
+
+    pub lead_cut : length s ≤ at → refused 2 ≡ lead_at s start
     unfolding lead_at segment_at
-    lead_cut e =
-        let behind = rw (marker_later s start begins fills) at (marker_missing s (start + 1) e) in
-        rw (eq-eqb (byte_at s start) prefix fills, le-ltb (marker_at s start) (length s) behind)
+    lead_cut h = rw (eq-eqb (byte_at s start) prefix fills, ← here, le-ltb at (length s) h)
 
-    module _ {at : ℕ} (found : some at ≡ marker_in s (start + 1)) where
-      pub inside : at < length s
-      inside = (marker_given s (start + 1) found).1
-
-      here : at ≡ marker_at s start
-      here = (marker_given s (start + 1) found).0 ∙ marker_later s start begins fills
-
+    module _ (inside : at < length s) where
       abbrev marker : ℕ
       marker = byte_at s at
 
@@ -102,7 +97,7 @@ module _ (s : List ℕ) (start : ℕ) where
       lead_unsized : (ends_search marker || lacks_length marker) ≡ true
           → lead_at s start ≡ lead_by s (segment none) (if ends_search marker || false then halt else onward (at + 1))
       unfolding length_read lead_of said length_test body body_at
-      lead_unsized e = lead_marked ∙ rw (e, le-leb (at + 1) (length s) (omega (arith, inside)), unnamed)
+      lead_unsized e = lead_marked ∙ rw (e, le-leb (at + 1) (length s) (omega arith), unnamed)
 
       module _ {ends : Bool} (e : ends ≡ ends_search marker) where
         pub lead_ends : ends ≡ true → refused 1 ≡ lead_at s start

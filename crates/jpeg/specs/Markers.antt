@@ -1,18 +1,14 @@
 -- Which markers end the search or lack a length, and the FF bytes before a marker.
-use Rattle.std.specs.Prelude as std
-use Rattle.std.specs.Prelude.{MatchOption, ◌≡◌, Bool, ◌||◌, List, ℕ, zero, suc, ◌+◌, ◌-◌, ◌≤◌, ◌<◌, leb, ltb, if◌then◌else◌}
+use Rattle.std.specs.Prelude.{◌≡◌, Bool, ◌||◌, List, ℕ, suc, ◌+◌, ◌-◌, ◌≤◌, ◌<◌}
 use Rattle.std.proofs.Math.Path.{refl, sym}
 use Rattle.std.proofs.Math.Bool.{true, false}
-use Rattle.std.proofs.Math.Option.{Option, none, some}
 use native.Mathlib.Omega.{arith}
 use Rattle.std.proofs.Math.Numerals.{add-one}
 use Rattle.std.proofs.Math.ListN.{length}
 use Rattle.std.proofs.Math.Dec.{eqb}
-use borrow.Author.Tests.{le-leb, lt-leb, lt-ltb, le-ltb, eq-eqb, ne_eqb, eqb-true, eqb-false, leb-true, leb-false, ltb-true, ltb-false}
+use borrow.Author.Tests.{le-leb, lt-leb, eq-eqb, ne_eqb, eqb-false}
 use Rattle.rules.specs.Doc.Bytes.{byte_at}
-use Rattle.rules.specs.Results.{perhaps}
 use Rattle.jpeg_rules.specs.Doc.Segments.{prefix, ends_search, lacks_length, past_fill, marker_at}
-use Rattle.jpeg_rules.specs.Laws.Marker.{marker_least}
 
 -- ---- Kinds of markers
 
@@ -49,78 +45,22 @@ module _ (marker : ℕ) where
 
 -- ---- FF bytes one after another, up to the marker
 
--- where the marker byte stands, if it does
-unfoldable pub marker_in : List ℕ → ℕ → Option ℕ
-marker_in s start = if ltb (marker_at s start) (length s) then some (marker_at s start) else none
-
-module _ (s : List ℕ) where
-  -- all are FF up to `to`, and none stands there, unless it is the end
-  fill_to : (n at to : ℕ) → at ≤ to → to ≤ at + n → ((k : ℕ) → at ≤ k → k < to → byte_at s k ≡ prefix) → (to < at + n → byte_at s to ≡ prefix → ⊥)
-      → past_fill s n at ≡ to
-  unfolding past_fill
-  fill_to zero at to low high fill ends = omega arith
-  fill_to (suc n) at to low high fill ends =
-      go (eqb at to) refl (λ h. fill_to n (suc at) to h (omega arith) (λ k a b. fill k (omega arith) b) (λ l. ends (omega arith)))
-    where
-      go : (t : Bool) → eqb at to ≡ t → (at < to → past_fill s n (suc at) ≡ to) → past_fill s (suc n) at ≡ to
-      go true e later =
-          let z : at ≡ to = eqb-true at to e in
-          rw (ne_eqb (byte_at s at) prefix (λ f. ends (omega arith) (rw z at f))) z
-      go false e later =
-          let more : at < to = omega (arith, eqb-false at to e) in
-          rw (eq-eqb (byte_at s at) prefix (fill at (omega arith) more)) (later more)
-
-  module _ (start : ℕ) where
-    -- nothing but FF is left
-    marker_none : ((k : ℕ) → start ≤ k → k < length s → byte_at s k ≡ prefix) → none ≡ marker_in s start
-    unfolding marker_in marker_at
-    marker_none fill = rw (le-ltb (marker_at s start) (length s) (go (leb start (length s)) refl))
-      where
-        go : (t : Bool) → leb start (length s) ≡ t → length s ≤ marker_at s start
-        go true e =
-            let h = leb-true start (length s) e in
-            omega (arith, fill_to (length s - start) start (length s) h (omega (arith, h)) fill (λ l. absurd (omega (arith, h))))
-        go false e = omega (arith, marker_least s start, leb-false start (length s) e)
-
-    marker_some : (at : ℕ) → start ≤ at → at < length s → (byte_at s at ≡ prefix → ⊥) → ((k : ℕ) → start ≤ k → k < at → byte_at s k ≡ prefix)
-        → some at ≡ marker_in s start
-    unfolding marker_in marker_at
-    marker_some at low high ne fill =
-        let z : marker_at s start ≡ at = fill_to (length s - start) start at low (omega arith) fill (λ l. ne) in
-        rw (z, lt-ltb at (length s) high)
-
-    -- by what the library's search says: none is found, or the first that is no FF
-    pub marker_found : (r : std.Option ℕ)
-        → MatchOption r ((k : ℕ) → start ≤ k → k < length s → byte_at s k ≡ prefix)
-        (λ at. (start ≤ at) × (at < length s) × (byte_at s at ≡ prefix → ⊥) × ((k : ℕ) → start ≤ k → k < at → byte_at s k ≡ prefix))
-        → perhaps (λ at. at) r ≡ marker_in s start
-    marker_found std.None fill = marker_none fill
-    marker_found (std.Some at) (low, high, ne, fill) = marker_some at low high ne fill
-
-module _ (s : List ℕ) (start : ℕ) where
-  -- a place that was given is the definition's, and lies in the bytes; if none was, that is behind them
-  pub marker_given : {at : ℕ} → some at ≡ marker_in s start → (at ≡ marker_at s start) × (at < length s)
-  unfolding marker_in
-  marker_given {at} e = go (ltb (marker_at s start) (length s)) refl e
-    where
-      go : (t : Bool) → ltb (marker_at s start) (length s) ≡ t → some at ≡ (if t then some (marker_at s start) else none)
-          → (at ≡ marker_at s start) × (at < length s)
-      go true f e =
-          let z : at ≡ marker_at s start = cc in
-          (z, rw z (ltb-true (marker_at s start) (length s) f))
-      go false f e = absurd (let z : ◌≡◌ {A = ℕ} 0 1 = cc in omega arith)
-
-  pub marker_missing : none ≡ marker_in s start → length s ≤ marker_at s start
-  unfolding marker_in
-  marker_missing e = go (ltb (marker_at s start) (length s)) refl e
-    where
-      go : (t : Bool) → ltb (marker_at s start) (length s) ≡ t → none ≡ (if t then some (marker_at s start) else none) → length s ≤ marker_at s start
-      go true f e = absurd (let z : ◌≡◌ {A = ℕ} 0 1 = cc in omega arith)
-      go false f e = ltb-false (marker_at s start) (length s) f
-
-  -- behind an FF it stands where it does from that FF on
-  pub marker_later : start < length s → byte_at s start ≡ prefix → marker_at s (start + 1) ≡ marker_at s start
+-- in the loop: the bytes from `at` on decide where the marker stands
+module _ (s : List ℕ) (at : ℕ) {marker : ℕ} (inv : marker_at s at ≡ marker) where
+  pub marker_none : length s ≤ at → at ≡ marker
   unfolding marker_at past_fill
-  marker_later h e =
-      let more : length s - start ≡ suc (length s - (start + 1)) = omega arith in
-      rw (more, eq-eqb (byte_at s start) prefix e, ← add-one start)
+  marker_none h =
+      let left : length s - at ≡ 0 = omega arith in
+      rw left at inv
+
+  module _ (h : at < length s) where
+    left_more : length s - at ≡ suc (length s - (at + 1))
+    left_more = omega arith
+
+    pub marker_here : (byte_at s at ≡ prefix → ⊥) → at ≡ marker
+    unfolding marker_at past_fill
+    marker_here ne = rw (left_more, ne_eqb (byte_at s at) prefix ne) at inv
+
+    pub marker_later : byte_at s at ≡ prefix → marker_at s (at + 1) ≡ marker
+    unfolding marker_at past_fill
+    marker_later e = rw (left_more, eq-eqb (byte_at s at) prefix e, ← add-one at) at inv

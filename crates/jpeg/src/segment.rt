@@ -51,7 +51,7 @@ pub(crate) enum Next {
 }
 
 // The segment at `start`, by its FF bytes, its marker and, for most, its length. A search that ends with no block is refused too.
-#[tactic(auto, using(crate::specs::Leads::lead_unmarked, crate::specs::Leads::lead_cut, crate::specs::Leads::lead_ends, crate::specs::Leads::lead_bare, crate::specs::Leads::lead_refused, crate::specs::Leads::lead_block, crate::specs::Leads::lead_on, crate::specs::Leads::inside, crate::specs::Bodies::end_lies))]
+#[tactic(auto, using(crate::specs::Leads::lead_unmarked, crate::specs::Leads::lead_cut, crate::specs::Leads::lead_ends, crate::specs::Leads::lead_bare, crate::specs::Leads::lead_refused, crate::specs::Leads::lead_block, crate::specs::Leads::lead_on, crate::specs::Bodies::end_lies))]
 pub(crate) fn read_segment(image: &[u8], start: usize) -> Result<Next, Refusal>
     requires { start < length image.now }
     ensures { next_of result ≡ lead_at image.now start }
@@ -59,9 +59,10 @@ pub(crate) fn read_segment(image: &[u8], start: usize) -> Result<Next, Refusal>
     if image[start] != PREFIX {
         return Err(Refusal::NoMarker);
     }
-    let Some(at) = marker_at(image, start + 1) else {
+    let at = marker_at(image, start + 1);
+    if image.len() <= at {
         return Err(Refusal::ImageEnds);
-    };
+    }
     let marker = image[at];
     if ends_search(marker) {
         return Err(Refusal::NotFound);

@@ -1,14 +1,15 @@
 -- What is known of a location that was found: its extents can be read again, as many as it says.
 use Rattle.std.specs.Prelude.{◌≡◌, List, ◌∷◌, ℕ, ◌+◌, ◌*◌, ◌≤◌, ◌<◌, length, drop, Result, Ok}
-use Rattle.std.proofs.Common.{sym, ap, ◌∙◌, arith}
+use Rattle.std.proofs.Common.{sym, ap, ◌∙◌}
 use Rattle.std.proofs.Math.Logic.{∥∥₁_elim}
 use Rattle.std.proofs.Props.{props}
 use Rattle.rules.specs.Doc.Outcomes.{fine}
 use Rattle.rules.specs.Doc.Iloc as doc
-use Rattle.rules.specs.Laws.Fields.{Is048}
+use Rattle.rules.specs.Laws.Fields.{must_be_8}
 use Rattle.rules.specs.Laws.Extents.{extent_here}
 use Rattle.rules.specs.Laws.Entries.{Chose, chose_length, chose_kth}
 use Rattle.boxes.specs.declared.refusal.Refusal.{Refusal}
+use Rattle.locations.specs.Parts.{Width}
 use Rattle.locations.specs.Told.{location_in, extents_of, iloc_of}
 use Rattle.locations.specs.declared.location.Location.{Location}
 
@@ -22,10 +23,6 @@ pub read_chose : (body : List ℕ) (wanted : ℕ) {t : doc.Table} {c : doc.Chose
 unfolding doc.chosen
 read_chose body wanted e f = ∣ record { wanted = wanted; is = rw (← e, ← f) } ∣₁
 
--- a width of 0, 4 or 8 bytes
-at_most_8 : {w : ℕ} → Is048 w → w ≤ 8
-at_most_8 h = omega (arith, h)
-
 module _ (l : Location) where
   abbrev z : doc.Sizes
   z = (location_in l).sizes
@@ -36,13 +33,13 @@ module _ (l : Location) where
   pub extents_count : length (extents_of l) ≡ l.entry.extent_count
   extents_count = ∥∥₁_elim l.chosen (Prim.hlevel props) (λ h. chose_length l.body.now (location_in l) h)
 
-  -- extent k is there whole, with widths that need no test
+  -- extent k is there whole, with widths that need no test in the code
   pub record Whole (k : ℕ) : Type 0 where
-    pub widths : (z.offset ≤ 8) × (z.length ≤ 8)
+    pub widths : Width z.offset × Width z.length
     pub inside : at k + doc.extent_width z ≤ length l.body.now
     pub here : drop k (extents_of l) ≡ extent_here z l.body.now (at k) ∷ drop (k + 1) (extents_of l)
 
   pub whole : (k : ℕ) → k < l.entry.extent_count → Whole k
   whole k h = ∥∥₁_elim {P = Whole k} l.chosen (Prim.hlevel props) (λ c.
       let i = chose_kth l.body.now (location_in l) c k h in
-      record { widths = (at_most_8 i.sizes.offset, at_most_8 i.sizes.length); inside = i.inside; here = i.here })
+      record { widths = (must_be_8 i.sizes.offset, must_be_8 i.sizes.length); inside = i.inside; here = i.here })

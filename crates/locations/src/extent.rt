@@ -1,7 +1,9 @@
 // The extents of an entry, which share their sizes.
 ghost use Rattle.std.specs.Prelude.{◌≡◌, ◌+◌, ◌≤◌, length};
+ghost use Rattle.rules.specs.Doc.Bytes.{number_at};
 ghost use Rattle.rules.specs.Doc.Iloc.{extent_width, extent_at};
 ghost use Rattle.rules.specs.Laws.Extents.{extent_here};
+ghost use Rattle.locations.specs.Parts.{Width};
 ghost use Rattle.locations.specs.Told.{sizes_in, extent_in, read_of};
 
 use crate::sizes::Sizes;
@@ -26,16 +28,28 @@ pub(crate) fn parse_extent(body: &[u8], sizes: Sizes, at: usize) -> Result<Exten
     Ok(Extent { offset, length })
 }
 
+// A number of 0, 4 or 8 bytes, where it is known to be there: one load, since every extent is read again in a loop.
+fn read_again(body: &[u8], at: usize, size: usize) -> u64
+    requires { Width size × (at + size ≤ length body.now) }
+    ensures { result ≡ number_at body.now at size }
+{
+    match size {
+        0 => 0,
+        4 => u64::from(endian::loadu32(body, at)),
+        _ => endian::loadu64(body, at),
+    }
+}
+
 // An extent, where it is known to be whole.
 #[tactic(auto, unfolding(rules::specs::Doc::Iloc::extent_width))]
 pub(crate) fn extent_here(body: &[u8], sizes: Sizes, at: usize) -> Extent
-    requires { (sizes.offset ≤ 8) × (sizes.length ≤ 8) × (at + extent_width (sizes_in sizes) ≤ length body.now) }
+    requires { Width sizes.offset × Width sizes.length × (at + extent_width (sizes_in sizes) ≤ length body.now) }
     ensures { extent_in result ≡ extent_here (sizes_in sizes) body.now at }
 {
     let offset_at = at + sizes.index;
     let length_at = offset_at + sizes.offset;
     Extent {
-        offset: endian::load_big(body, offset_at, sizes.offset),
-        length: endian::load_big(body, length_at, sizes.length),
+        offset: read_again(body, offset_at, sizes.offset),
+        length: read_again(body, length_at, sizes.length),
     }
 }

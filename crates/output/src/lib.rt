@@ -1,7 +1,7 @@
 // The answer of extraction, whatever kind of image the block is from; the copy of bytes to the output, and the room for them.
 #![tactic(auto)]
 
-ghost use Rattle.std.specs.Prelude.{◌≡◌, ℕ, List, drop};
+ghost use Rattle.std.specs.Prelude.{◌≡◌, ℕ, List, drop, length};
 ghost use Rattle.rules.specs.Doc.Outcomes.{fine};
 ghost use Rattle.rules.specs.OverBytes.{answer_of};
 ghost use Rattle.output.specs.Told.{told};
@@ -40,6 +40,17 @@ pub fn numbers(answer: Extracted) -> (u8, usize)
     }
 }
 
+// The library's `copy_from_slice` calls C's `memmove`: the archive for C would need it from outside, and a part of a few bytes would pay for the call.
+#[tactic(auto, using(std::proofs::lemmas::List::take_more, std::proofs::lemmas::List::take_more_set, std::proofs::Common::take_all))]
+fn copy(from: &[u8], to: &mut [u8])
+    requires { length from.now ≡ length to.old }
+    ensures { to.new ≡ from.now }
+{
+    for i in 0..to.len() {
+        to[i] = from[i];
+    }
+}
+
 // Copies the bytes of `part` from `skip` on to `out` from `at` on, as many as there is room for, and answers the place after the last.
 pub fn put(part: &[u8], skip: usize, out: &mut [u8], at: usize) -> usize
     ensures { Copied (drop skip part.now) at out.old result out.new }
@@ -49,7 +60,7 @@ pub fn put(part: &[u8], skip: usize, out: &mut [u8], at: usize) -> usize
     }
     let rest = &part[skip..];
     let n = rest.len().min(out.len() - at);
-    out[at..at + n].copy_from_slice(&rest[..n]);
+    copy(&rest[..n], &mut out[at..at + n]);
     at + n
 }
 

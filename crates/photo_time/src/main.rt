@@ -1,6 +1,7 @@
 // Says when the picture on standard input was taken, and its exposure bias: one line.
 #![tactic(auto)]
 
+use std::fmt::InlineText;
 use std::io;
 use std::io::{Read, Write};
 use streams::read_full;
@@ -10,6 +11,9 @@ const LONGEST: usize = 6291456;
 
 // One byte more: so a longer image is seen to be longer, and need not be read on.
 const MOST_IMAGE: usize = LONGEST + 1;
+
+// Longer than the only message.
+const LONGEST_MESSAGE: usize = 64;
 
 // No block is longer, so extraction always has room.
 const MOST_BLOCK: usize = 65531;
@@ -24,10 +28,11 @@ fn run<R: Read, W: Write, E: Write>(
 ) -> io::Result<()> {
     let n = read_full(reader, image)?;
     if LONGEST < n {
-        return writeln!(
-            errors,
-            "photo_time: the image is longer than {LONGEST} bytes"
-        );
+        // In one write: so the line of another program that writes there too can't come in between.
+        let line = InlineText::<LONGEST_MESSAGE>::of(format_args!(
+            "photo_time: the image is longer than {LONGEST} bytes\n"
+        ));
+        return errors.write_all(line.as_str().as_bytes());
     }
     // What standard output doesn't take is lost.
     let _ = capture_line::print_line(&image[..n], block, writer);

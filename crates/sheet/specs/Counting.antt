@@ -13,7 +13,6 @@ use Rattle.sheet_rules.specs.Doc.Sheet.{most_lines, entries_from, entries, files
 use Rattle.sheet_rules.specs.Laws.Entries.{OtherLine, entries_none, entries_line, entries_many, entries_other}
 use Rattle.sheet_rules.specs.Laws.Counts.{files_same, files_other, bytes_more, largest_more, AllAllowed, allowed_more, files_most, bytes_most, largest_most}
 use Rattle.sheet_line.specs.Shape.{entry, LineTo}
-use Rattle.sheet.specs.declared.counted.Counted.{Counted}
 use Rattle.sheet.specs.declared.counted.Totals as code
 
 -- the files of each answer
@@ -38,9 +37,9 @@ pub record Summed (s counts : List ℕ) (t : Totals) : Type 0 where
   pub are : entries s ≡ fine es
   pub sums : Sums counts t es
 
-abbrev pub CountedOf : List ℕ → Result Counted ℕ → Type 0
-CountedOf s (Ok counted) = Summed s counted.counts (totalled counted.totals)
-CountedOf s (Err line) = entries s ≡ refused line
+abbrev pub CountedOf : List ℕ → List ℕ → Result code.Totals ℕ → Type 0
+CountedOf s counts (Ok t) = Summed s counts (totalled t)
+CountedOf s counts (Err line) = entries s ≡ refused line
 
 -- ---- One entry more
 

@@ -11,7 +11,7 @@ use Rattle.rules.specs.Doc.Lists.{only, each}
 use Rattle.rules.specs.Doc.Bytes.{positions}
 use Rattle.sheet_rules.specs.Doc.Lines.{Entry}
 use Rattle.sheet_rules.specs.Doc.Sheet.{entries, Count, count_of, counts, files_with, has_files, occurred, count_text, totals_text, sheet_text, wrong_text, sheet_of, sheet}
-use Rattle.sheet.specs.declared.counted.Counted.{Counted}
+use Rattle.sheet.specs.declared.counted.Totals.{Totals}
 use Rattle.sheet.specs.Counting.{Tally, totalled, Summed}
 
 abbrev counted : ℕ → ℕ → Count
@@ -34,8 +34,8 @@ unfoldable pub counts_text : List ℕ → ℕ → List ℕ
 counts_text cs zero = []
 counts_text cs (suc n) = counts_text cs n ++ count_line n (get_or cs n 0)
 
-unfoldable pub sums_text : Counted → List ℕ
-sums_text c = counts_text c.counts 100 ++ totals_text (totalled c.totals)
+unfoldable pub sums_text : List ℕ → Totals → List ℕ
+sums_text cs t = counts_text cs 100 ++ totals_text (totalled t)
 
 -- ---- The counts of the definition
 
@@ -67,9 +67,9 @@ module _ (cs : List ℕ) (es : List Entry) (tally : Tally cs es) where
 -- ---- The sheet
 
 module _ (s : List ℕ) where
-  pub sums_sheet : (c : Counted) → Summed s c.counts (totalled c.totals) → sheet s ≡ sums_text c
+  pub sums_sheet : (cs : List ℕ) (t : Totals) → Summed s cs (totalled t) → sheet s ≡ sums_text cs t
   unfolding sheet sheet_of sheet_text sums_text
-  sums_sheet c t = rw (t.are, counts_are c.counts t.es t.sums.tally, t.sums.totals_are)
+  sums_sheet cs t m = rw (m.are, counts_are cs m.es m.sums.tally, m.sums.totals_are)
 
   pub wrong_sheet : {k : ℕ} → entries s ≡ refused k → sheet s ≡ wrong_text k
   unfolding sheet sheet_of

@@ -1,16 +1,18 @@
 // The lines, counted.
+ghost use Rattle.std.specs.Prelude.{◌≡◌, replicate};
 ghost use Rattle.sheet.specs.Counting.{CountedOf};
 
-use crate::counted::{ANSWERS, Counted, Totals};
+use crate::counted::{ANSWERS, Totals};
 use sheet_line::read_line;
 
 const MOST_LINES: usize = 100000;
 
-// Counts the lines; or answers the number of the first one that refuses them all.
-pub(crate) fn count(lines: &[u8]) -> Result<Counted, usize>
-    ensures { CountedOf lines.now result }
+// Counts the lines, the files of each answer in `counts`, which starts with zeros; or answers the number of the first one that refuses them all.
+// The counts are lent: handed out in the answer, they would be copied twice, by C's `memcpy`.
+pub(crate) fn count(lines: &[u8], counts: &mut [usize; ANSWERS]) -> Result<Totals, usize>
+    requires { counts.old ≡ replicate 100 0 }
+    ensures { CountedOf lines.now counts.new result }
 {
-    let mut counts = [0; ANSWERS];
     let mut files = 0;
     let mut bytes = 0;
     let mut largest: usize = 0;
@@ -27,10 +29,9 @@ pub(crate) fn count(lines: &[u8]) -> Result<Counted, usize>
         largest = largest.max(entry.length);
         rest = &rest[entry.end..];
     }
-    let totals = Totals {
+    Ok(Totals {
         files,
         bytes,
         largest,
-    };
-    Ok(Counted { counts, totals })
+    })
 }

@@ -14,10 +14,3 @@ pub(crate) struct Totals {
     ghost small: { bytes ≤ 65535 * files },
     ghost each: { largest ≤ 65535 },
 }
-
-// The files of each answer, and the totals.
-#[derive(Clone, Copy)]
-pub(crate) struct Counted {
-    pub(crate) counts: [usize; ANSWERS],
-    pub(crate) totals: Totals,
-}

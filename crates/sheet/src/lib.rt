@@ -11,6 +11,7 @@ ghost use Rattle.sheet_rules.specs.Doc.Sheet.{sheet};
 ghost use Rattle.sheet.specs.Fronts.{OfEvery};
 
 use count::count;
+use counted::ANSWERS;
 use print::{put_sums, put_wrong};
 
 // No sheet is longer (`sheet_length` in sheet_rules, Laws/SheetLength).
@@ -24,8 +25,9 @@ pub fn write_sheet(lines: &[u8], out: &mut [u8]) -> usize
     ensures value { result ≡ length (sheet lines.now) }
     ensures out_after { out.new ≡ printed (sheet lines.now) out.old }
 {
-    match count(lines) {
-        Ok(counted) => put_sums(&counted, out),
+    let mut counts = [0; ANSWERS];
+    match count(lines, &mut counts) {
+        Ok(totals) => put_sums(&counts, totals, out),
         Err(line) => put_wrong(line, out),
     }
 }

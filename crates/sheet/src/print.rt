@@ -5,7 +5,7 @@ ghost use Rattle.text.specs.Wrote.{Wrote};
 ghost use Rattle.sheet.specs.Counting.{totalled};
 ghost use Rattle.sheet.specs.Printed.{count_line, counts_text, sums_text};
 
-use crate::counted::{ANSWERS, Counted, Totals};
+use crate::counted::{ANSWERS, Totals};
 use text::put_named;
 
 // An answer without files has no line.
@@ -44,11 +44,11 @@ fn put_totals(totals: Totals, out: &mut [u8], at: usize) -> usize
 }
 
 // Each answer that occurred, and the totals.
-pub(crate) fn put_sums(counted: &Counted, out: &mut [u8]) -> usize
-    ensures { Wrote (sums_text counted.now) 0 out.old result out.new }
+pub(crate) fn put_sums(counts: &[usize; ANSWERS], totals: Totals, out: &mut [u8]) -> usize
+    ensures { Wrote (sums_text counts.now totals) 0 out.old result out.new }
 {
-    let at = put_counts(&counted.counts, out);
-    put_totals(counted.totals, out, at)
+    let at = put_counts(counts, out);
+    put_totals(totals, out, at)
 }
 
 // Only the number of a line.

@@ -5,7 +5,7 @@ ghost use Rattle.boxes.specs.Told.{child};
 ghost use Rattle.splitter.specs.Children.{whole_children};
 
 use crate::splitter::BoxSplitter;
-use boxes::{Child, Refusal};
+use boxes::{Child, Header, Refusal};
 
 // The first child of some bytes, and how many whole ones there are before a fault or the end. (`Children` beside `children` would be one name.)
 #[derive(Clone, Copy)]
@@ -36,15 +36,15 @@ pub fn children(s: &[u8]) -> Counted
     }
 }
 
-// By the rules inside a box.
-#[tactic(auto, using(crate::specs::FrontBox::front_whole, crate::specs::FrontBox::none_counted))]
+// By the rules inside a box, by places: handing out a splitter for each body would cost a third more.
 fn count_children(s: &[u8]) -> usize
     ensures { result ≡ whole_children s.now }
 {
-    let mut splitter = BoxSplitter::new(s);
+    let mut at = 0;
     let mut count = 0;
-    while let Ok(_) = splitter.child_box() {
+    while let Ok(child) = boxes::child_box(s, Header::read(s, at)) {
         count += 1;
+        at = child.to;
     }
     count
 }

@@ -1,4 +1,4 @@
--- No two answers say the same, so each contract of this crate determines its function's answer.
+-- No two answers say the same, so each contract of this crate determines its function's answer; of the bytes of a value, which they are.
 use Rattle.std.specs.Prelude.{◌≡◌, refl, Bool, List, [], ◌∷◌, ℕ, ◌+◌, ◌-◌, ◌*◌, ◌≤◌, length, get_or, leb, Result, Ok, Err, Option, IfOk}
 use Rattle.std.proofs.Common.{sym, ap, subst, ◌∙◌}
 use Rattle.std.proofs.Math.Bridge.{le_prop}

@@ -22,4 +22,4 @@ returns c =
     let a = c.args in
     let rest = between_to_end a.part.now a.skip (length a.part.now) (omega arith) in
     let n : a.at + c.min-n.result - a.at ≡ c.min-n.result = omega arith in
-    copied_room _ _ _ _ _ (rw rest at c.min-n.ensures) (omega arith) (rw (n, c.copy_from_slice.ensures.after, rest) refl)
+    copied_room _ _ _ _ _ (rw rest at c.min-n.ensures) (omega arith) (rw (n, c.copy.ensures, rest) refl)

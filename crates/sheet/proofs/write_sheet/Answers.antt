@@ -6,7 +6,7 @@ use Rattle.sheet.proofs.write_sheet.Goals as goal
 
 pub returns-in-Ok : goal.returns-in-Ok
 returns-in-Ok c =
-    let told = from_front (rw (sym (sums_sheet _ c.in-Ok.counted c.in-Ok.ensures)) at c.put_sums.ensures) in
+    let told = from_front (rw (sym (sums_sheet _ _ c.in-Ok.totals c.in-Ok.ensures)) at c.put_sums.ensures) in
     record { value = told.0; out_after = told.1 }
 
 pub returns-in-Err : goal.returns-in-Err
